@@ -1,0 +1,220 @@
+-- What a link has to show of each byte, once; all claims on its streams and its calls follow.
+use Prim.Native.Nat.{ℕ, _≤_, _<_}
+use mathlib.Core.Path.{_≡_, refl, ap, sym, _∙_, subst}
+use mathlib.Core.Bool.{true}
+use mathlib.Core.List.{List, [], _∷_, _++_, append-assoc}
+use mathlib.Core.Option.{Option, none, some}
+use native.Mathlib.Nat.{zero-add}
+use native.Mathlib.Omega.{arith}
+use lib.ListN.{length, take, length-append, length-drop}
+use lib.Seq.{sets}
+use borrow.Author.Tests.{le-leb}
+use Rattle.runs.specs.Runs.{Bytes, over}
+use Rattle.runs.proofs.Bytes.{bytes-append}
+use Rattle.runs.proofs.Run.{part-sets}
+use Rattle.framing.specs.Answer.{Outcome, done}
+use Rattle.framing.specs.Receiver.{Fed, feed, events, last, drive, join}
+use Rattle.framing.specs.Segment.{Segment, noise, refused, accepted, Event, message, refusal, Config, step, eventOf, noiseAfter, wires}
+use Rattle.framing.specs.Writer.{writes}
+use Rattle.framing.specs.Link.{Link, Lent, stepOn, told, heardIn, called}
+use Rattle.framing.specs.Claims.{openAt, ReadsBack, Canonical, CutAnywhere, Accounted, Demand3}
+use Rattle.framing.proofs.Stored.{stored-done}
+use Rattle.framing.proofs.Cutting.{Follows, cutting, feed-follows}
+use Rattle.framing.proofs.Segments.{wireOpt, Accepts, AllAccept, accept-at, wires-append, partition, all-accepted, phase-last, heard-events, noise-last}
+use Rattle.framing.proofs.Calls.{demand}
+
+abbrev pub at : {P : Type 0} → P → ℕ → Config P
+at p n = record { phase = p; noise = n }
+
+-- in these fields p is a phase, b a byte and n a noise count; Good is what holds of each phase that is reached
+pub record Lawful (L : Link) : Type 1 where
+  pub Good : L .Phase → Type 0
+  -- the state of a phase and a noise count, known, with its counts; with what is gathered in the store it stands for the phase
+  pub stateOf : L .Phase → ℕ → L .State
+  pub noise-of : (p : L .Phase) (n : ℕ) → L .noise (stateOf p n) ≡ n
+  pub open-of : (p : L .Phase) (n : ℕ) → L .«open» (stateOf p n) ≡ length (L .held p)
+  pub known-of : (p : L .Phase) (n : ℕ) → Good p → L .known (stateOf p n) ≡ true
+  pub phase-of : (p : L .Phase) (n : ℕ) (store : List ℕ) → Good p → take (length (L .gathered p)) store ≡ L .gathered p → L .phaseOf (stateOf p n) store ≡ p
+  -- at first nothing is held or gathered
+  pub good-first : Good (L .hunting)
+  pub held-first : L .held (L .hunting) ≡ []
+  pub gathered-first : L .gathered (L .hunting) ≡ []
+  pub fresh-first : L .fresh ≡ stateOf (L .hunting) 0
+  -- a byte: nothing is lost, the next phase is good, an accepted message may be sent
+  pub conserves : (p : L .Phase) (b : ℕ) → b < 256 → Good p → wireOpt (L .frame) (L .cut p b .1) ++ L .held (L .cut p b .0) ≡ L .held p ++ (b ∷ [])
+  pub good-next : (p : L .Phase) (b : ℕ) → b < 256 → Good p → Good (L .cut p b .0)
+  pub accepts-ok : (p : L .Phase) (b : ℕ) → b < 256 → Good p → Accepts (λ m. L .ok m ≡ true) (L .cut p b .1)
+  -- the state after it is that of the next phase, also out of a state in plain hunting whatever it holds
+  pub state-next : (p : L .Phase) (n b : ℕ) → b < 256 → Good p
+      → L .stateAfter (stateOf p n) (L .cut p b .0) (L .cut p b .1) ≡ stateOf (L .cut p b .0) (noiseAfter (L .cut p b .1) n)
+  pub state-leaves : (s : L .State) (store : List ℕ) (b : ℕ) → b < 256 → L .known s ≡ true → L .phaseOf s store ≡ L .hunting
+      → L .stateAfter s (L .cut (L .hunting) b .0) (L .cut (L .hunting) b .1)
+      ≡ stateOf (L .cut (L .hunting) b .0) (noiseAfter (L .cut (L .hunting) b .1) (L .noise s))
+  -- what is written fits the store and is what is gathered; an accepted message is read back from its numbers and the store
+  pub front-fits : (p : L .Phase) (b : ℕ) → b < 256 → Good p → length (L .front p b) ≤ L .size
+  pub front-is : (p : L .Phase) (b : ℕ) (store : List ℕ) → b < 256 → Good p
+      → take (length (L .gathered (L .cut p b .0))) (over (L .front p b) store) ≡ L .gathered (L .cut p b .0)
+  pub message-is : (p : L .Phase) (b : ℕ) (store : List ℕ) → b < 256 → Good p → take (length (L .gathered p)) store ≡ L .gathered p → L .size ≤ length store
+      → Accepts (λ m. L .messageOf (over (L .front p b) store) (L .numbersOf m) ≡ m) (L .cut p b .1)
+  -- a frame is of bytes and not empty; a hunting receiver reads it back, whatever follows
+  pub frame-bytes : (m : L .Message) → L .Typed m → L .ok m ≡ true → Bytes (L .frame m)
+  pub frame-filled : (m : L .Message) → 0 < length (L .frame m)
+  pub reads-frame : (m : L .Message) (rest : List ℕ) (n : ℕ) → L .Typed m → L .ok m ≡ true
+      → feed (step (L .cut)) (at (L .hunting) n) (L .frame m ++ rest)
+      ≡ record { event = some (message m); used = length (L .frame m); after = at (L .hunting) n }
+
+over-length : (front store : List ℕ) → length front ≤ length store → length (over front store) ≡ length store
+over-length front store h = simp (length-append, length-drop) (omega arith)
+
+module _ (L : Link) (laws : Lawful L) where
+  pub accounted : Accounted L
+  accounted bs y =
+      partition (L .frame) (L .held) (L .cut) (laws .Good) (laws .good-next) (laws .conserves) (L .hunting) bs y (laws .good-first)
+      ∙ ap (λ (w : List ℕ). w ++ bs) (laws .held-first)
+
+  pub canonical : Canonical L
+  canonical bs y before after m e = (
+    accept-at (λ m. L .ok m ≡ true) before after m
+        (subst (λ (ss : List (Segment (L .Message))). AllAccept (λ m. L .ok m ≡ true) ss) e
+        (all-accepted (L .frame) (L .held) (L .cut) (laws .Good) (laws .good-next) (λ m. L .ok m ≡ true) (laws .accepts-ok) (L .hunting) bs y (laws .good-first))),
+    sym (accounted bs y)
+        ∙ ap (λ (ss : List (Segment (L .Message))). wires (L .frame) ss ++ openAt L bs) e
+        ∙ ap (λ (w : List ℕ). w ++ openAt L bs)
+        (wires-append (L .frame) before (accepted m ∷ after) ∙ sym (append-assoc (wires (L .frame) before) (L .frame m) (wires (L .frame) after))),
+  )
+
+  -- what a caller makes of an event, through what it is told
+  abbrev view : Lent L → Option (Event (L .Message)) → Option (Event (L .Message))
+  view c o = heardIn L (c .1) (told L o)
+
+  view-some : (c : Lent L) (e : Event (L .Message)) → (f : Event (L .Message)) × (view c (some e) ≡ some f)
+  view-some c (message m) = (message (L .messageOf (c .1) (L .numbersOf m)), refl)
+  view-some c (refusal n) = (refusal n, refl)
+
+  view-event : (c : Lent L) (o : Option (Segment (L .Message))) → Accepts (λ m. L .messageOf (c .1) (L .numbersOf m) ≡ m) o → view c (eventOf o) ≡ eventOf o
+  view-event c none h = refl
+  view-event c (some (noise bs)) h = refl
+  view-event c (some (refused n bs)) h = refl
+  view-event c (some (accepted m)) h = ap (λ (x : L .Message). some (message x)) h
+
+  -- X is what is told of the state besides its phase and its noise
+  module _ (X : L .State → Config (L .Phase) → Type 0) (told-of : (p : L .Phase) (n : ℕ) → X (laws .stateOf p n) (at p n)) where
+    -- a state and a store stand for a phase and a noise count
+    record Stands (c : Lent L) (a : Config (L .Phase)) : Type 0 where
+      phase : L .phaseOf (c .0) (c .1) ≡ a .phase
+      known : L .known (c .0) ≡ true
+      noise : L .noise (c .0) ≡ a .noise
+      next : (b : ℕ) → b < 256
+          → L .stateAfter (c .0) (L .cut (a .phase) b .0) (L .cut (a .phase) b .1) ≡ laws .stateOf (L .cut (a .phase) b .0) (noiseAfter (L .cut (a .phase) b .1) (a .noise))
+      store : take (length (L .gathered (a .phase))) (c .1) ≡ L .gathered (a .phase)
+      room : L .size ≤ length (c .1)
+      good : laws .Good (a .phase)
+      besides : X (c .0) a
+
+    stands-of : (p : L .Phase) (n : ℕ) (s : L .State) (store : List ℕ) → s ≡ laws .stateOf p n → laws .Good p
+        → take (length (L .gathered p)) store ≡ L .gathered p → L .size ≤ length store → Stands (s, store) (at p n)
+    stands-of p n s store e g h r =
+        subst (λ (x : L .State). Stands (x, store) (at p n)) (sym e)
+        (record {
+          phase = laws .phase-of p n store g h;
+          known = laws .known-of p n g;
+          noise = laws .noise-of p n;
+          next = λ b y. laws .state-next p n b y g;
+          store = h;
+          room = r;
+          good = g;
+          besides = told-of p n;
+        })
+
+    -- one byte
+    alike : (c : Lent L) (a : Config (L .Phase)) (b : ℕ) → b < 256 → Stands c a
+        → (view (stepOn L c b .0) (stepOn L c b .1) ≡ step (L .cut) a b .1) × Stands (stepOn L c b .0) (step (L .cut) a b .0)
+    alike c a b y r =
+        subst
+        (λ (p : L .Phase). (heardIn L (over (L .front p b) (c .1)) (told L (eventOf (L .cut p b .1))) ≡ step (L .cut) a b .1)
+        × Stands (L .stateAfter (c .0) (L .cut p b .0) (L .cut p b .1), over (L .front p b) (c .1)) (step (L .cut) a b .0)) (sym (r .phase)) (
+          view-event (c .0, over (L .front (a .phase) b) (c .1)) (L .cut (a .phase) b .1) (laws .message-is (a .phase) b (c .1) y (r .good) (r .store) (r .room)),
+          stands-of (L .cut (a .phase) b .0) (noiseAfter (L .cut (a .phase) b .1) (a .noise))
+              (L .stateAfter (c .0) (L .cut (a .phase) b .0) (L .cut (a .phase) b .1)) (over (L .front (a .phase) b) (c .1)) (r .next b y)
+              (laws .good-next (a .phase) b y (r .good)) (laws .front-is (a .phase) b (c .1) y (r .good))
+              (rw (over-length (L .front (a .phase) b) (c .1) (omega (arith, laws .front-fits (a .phase) b y (r .good), r .room))) (r .room)),
+        )
+
+    -- one call
+    follows : (c : Lent L) (a : Config (L .Phase)) (bs : List ℕ) → Bytes bs → Stands c a → Follows Stands (called L c bs) (feed (step (L .cut)) a bs)
+    follows c a bs y r =
+        rw (r .known, le-leb (L .size) (length (c .1)) (r .room)) (feed-follows (stepOn L) view (step (L .cut)) Stands (λ _. refl) view-some alike c a bs y r)
+
+  pub cut-anywhere : CutAnywhere L
+  cut-anywhere pieces store y room =
+      record {
+        hears = r .0 ∙ heard-events (L .cut) (at (L .hunting) 0) (join pieces);
+        noise = r .1 .noise ∙ noise-last (L .cut) (at (L .hunting) 0) (join pieces) (omega arith) ∙ rw zero-add;
+        «open» = r .1 .besides ∙ ap (λ (p : L .Phase). length (L .held p)) (phase-last (L .cut) (at (L .hunting) 0) (join pieces));
+      }
+    where
+      Counts : L .State → Config (L .Phase) → Type 0
+      Counts s a = L .«open» s ≡ length (L .held (a .phase))
+
+      r : (drive (called L) (L .fresh, store) pieces .0 ≡ events (step (L .cut)) (at (L .hunting) 0) (join pieces))
+          × Stands Counts (laws .open-of) (drive (called L) (L .fresh, store) pieces .1) (last (step (L .cut)) (at (L .hunting) 0) (join pieces))
+      r =
+          cutting (called L) (step (L .cut)) (Stands Counts (laws .open-of)) (follows Counts (laws .open-of)) (L .fresh, store) (at (L .hunting) 0) pieces y
+          (stands-of Counts (laws .open-of) (L .hunting) 0 (L .fresh) store (laws .fresh-first) (laws .good-first) (rw (laws .gathered-first)) room)
+
+  -- what the writer leaves is the frame
+  written-frame : (m : L .Message) (memory : List ℕ) → L .ok m ≡ true → length (L .frame m) ≤ length memory
+      → writes (L .ok) (L .frame) m memory ≡ (done (length (L .frame m)), sets memory 0 (L .frame m))
+  written-frame m memory o h = rw o (stored-done (L .frame m) memory 0 (omega arith))
+
+  pub reads-back : ReadsBack L
+  reads-back m memory rest s store t o h y k p room =
+      record {
+        answers = ap (λ (w : Outcome ℕ × List ℕ). w .0) (written-frame m memory o h);
+        hears = ap (λ (f : Heard). f .event) same ∙ f .event ∙ ap (λ (f : Fed (Event (L .Message)) (Config (L .Phase))). f .event) e;
+        uses = ap (λ (f : Heard). f .used) same ∙ f .used ∙ ap (λ (f : Fed (Event (L .Message)) (Config (L .Phase))). f .used) e;
+        quiet = ap (λ (f : Heard). L .noise (f .after .0)) same ∙ f .after .noise ∙ ap (λ (f : Fed (Event (L .Message)) (Config (L .Phase))). f .after .noise) e;
+      }
+    where
+      Any : L .State → Config (L .Phase) → Type 0
+      Any s a = Unit
+
+      Heard : Type 0
+      Heard = Fed (Event (L .Message)) (Lent L)
+
+      same : called L (s, store) (take (length (L .frame m)) (writes (L .ok) (L .frame) m memory .1) ++ rest) ≡ called L (s, store) (L .frame m ++ rest)
+      same =
+          ap (λ (w : List ℕ). called L (s, store) (w ++ rest))
+          (ap (λ (w : Outcome ℕ × List ℕ). take (length (L .frame m)) (w .1)) (written-frame m memory o h) ∙ part-sets memory 0 (L .frame m) (omega arith))
+
+      stands : Stands Any (λ _ _. tt) (s, store) (at (L .hunting) (L .noise s))
+      stands =
+          record {
+            phase = p;
+            known = k;
+            noise = refl;
+            next = λ b y. laws .state-leaves s store b y k p;
+            store = rw (laws .gathered-first);
+            room = room;
+            good = laws .good-first;
+            besides = tt;
+          }
+
+      f : Follows (Stands Any (λ _ _. tt)) (called L (s, store) (L .frame m ++ rest)) (feed (step (L .cut)) (at (L .hunting) (L .noise s)) (L .frame m ++ rest))
+      f = follows Any (λ _ _. tt) (s, store) (at (L .hunting) (L .noise s)) (L .frame m ++ rest) (bytes-append (L .frame m) rest (laws .frame-bytes m t o) y) stands
+
+      e : feed (step (L .cut)) (at (L .hunting) (L .noise s)) (L .frame m ++ rest)
+          ≡ record { event = some (message m); used = length (L .frame m); after = at (L .hunting) (L .noise s) }
+      e = laws .reads-frame m rest (L .noise s) t o
+
+  -- frames that are read back say themselves where they end
+  delimited : (a b : L .Message) (s t : List ℕ) → (L .ok a ≡ true) × L .Typed a → (L .ok b ≡ true) × L .Typed b → L .frame a ++ s ≡ L .frame b ++ t → a ≡ b
+  delimited a b s t oa ob h =
+      let e : some (message a) ≡ some (message b) = sym (event a s oa) ∙ ap (λ (w : List ℕ). feed (step (L .cut)) (at (L .hunting) 0) w .event) h ∙ event b t ob in
+      cc
+    where
+      event : (m : L .Message) (rest : List ℕ) → (L .ok m ≡ true) × L .Typed m → feed (step (L .cut)) (at (L .hunting) 0) (L .frame m ++ rest) .event ≡ some (message m)
+      event m rest o = ap (λ (f : Fed (Event (L .Message)) (Config (L .Phase))). f .event) (laws .reads-frame m rest 0 (o .1) (o .0))
+
+  pub demand3 : Demand3 L
+  demand3 = demand (L .ok) (L .frame) (L .Typed) delimited (laws .frame-filled)

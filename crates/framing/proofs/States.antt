@@ -1,0 +1,41 @@
+-- The shared state rule keeps a state with its phase.
+use Prim.Native.Nat.{ℕ, _+_, _%_, _^_, _<_}
+use mathlib.Core.Path.{_≡_, refl, ap}
+use mathlib.Core.Bool.{Bool, true, false, cond}
+use mathlib.Core.List.{List, [], _∷_, _++_}
+use mathlib.Core.Option.{Option, none, some}
+use native.Mathlib.Omega.{arith}
+use lib.ListN.{length, length-append}
+use lib.Dec.{eqb}
+use borrow.Author.Tests.{eq-eqb}
+use Rattle.framing.specs.Segment.{Segment, noiseAfter}
+use Rattle.framing.specs.State.{openAfter, stateAfter, stateOf}
+use Rattle.framing.specs.declared.State.{State}
+use Rattle.framing.proofs.Segments.{wireOpt}
+
+-- the count of held bytes goes with them, where they are fewer than 2^32
+pub open-next : {M : Type 0} (frame : M → List ℕ) (o : Option (Segment M)) (s : State) (h h′ : List ℕ) (b : ℕ) → s .«open» ≡ length h
+    → wireOpt frame o ++ h′ ≡ h ++ (b ∷ []) → length h′ < 2 ^ 32 → openAfter o s (length h′) ≡ length h′
+open-next frame none s h h′ b q e l = go (eqb (s .mode) 0)
+  where
+    go : (t : Bool) → cond t (length h′) ((s .«open» + 1) % 2 ^ 32) ≡ length h′
+    go true = refl
+    go false = omega (arith, simp length-append at (ap length e))
+open-next frame (some x) s h h′ b q e l = refl
+
+module _ {P M : Type 0} (frame : M → List ℕ) (modeOf : P → ℕ) (gathered held : P → List ℕ) where
+  pub shared-next : (p q : P) (o : Option (Segment M)) (n b : ℕ) → wireOpt frame o ++ held q ≡ held p ++ (b ∷ []) → length (held q) < 2 ^ 32
+      → stateAfter modeOf gathered held (stateOf modeOf gathered held p n) q o ≡ stateOf modeOf gathered held q (noiseAfter o n)
+  shared-next p q o n b e l =
+      λ i. record {
+        mode = modeOf q;
+        count = length (gathered q);
+        «open» = open-next frame o (stateOf modeOf gathered held p n) (held p) (held q) b refl e l i;
+        noise = noiseAfter o n;
+      }
+
+  -- out of plain hunting, whatever stands in `open`
+  pub shared-leaves : (s : State) (q : P) (o : Option (Segment M)) → s .mode ≡ 0
+      → stateAfter modeOf gathered held s q o ≡ stateOf modeOf gathered held q (noiseAfter o (s .noise))
+  shared-leaves s q none e = rw (eq-eqb (s .mode) 0 e)
+  shared-leaves s q (some x) e = refl

@@ -1,0 +1,72 @@
+-- What is claimed of every link. Each link's proofs/Theorems.antt proves these for its own.
+use Prim.Native.Nat.{ℕ, _%_, _^_, _≤_}
+use mathlib.Core.Path.{_≡_}
+use mathlib.Core.Logic.{_↔_}
+use mathlib.Core.Bool.{true}
+use mathlib.Core.List.{List, [], _∷_, _++_}
+use mathlib.Core.Option.{some}
+use lib.ListN.{length, take}
+use Rattle.runs.specs.Runs.{Bytes, Begins}
+use Rattle.framing.specs.Answer.{done}
+use Rattle.framing.specs.Receiver.{Fed, events, last, drive, join}
+use Rattle.framing.specs.Segment.{Segment, accepted, Event, message, heard, noiseOf, wires}
+use Rattle.framing.specs.Writer.{Call, kept, wire}
+use Rattle.framing.specs.Link.{Link, writeOn, called}
+
+-- every element of a list has a property
+abbrev pub AllOf : {A : Type 0} → (A → Type 0) → List A → Type 0
+AllOf P [] = Unit
+AllOf P (x ∷ xs) = P x × AllOf P xs
+
+module _ (L : Link) where
+  -- the segments of a stream by the rules, and what is open at its end
+  abbrev pub segments : List ℕ → List (Segment (L .Message))
+  segments bs = events (L .cut) (L .hunting) bs
+
+  abbrev pub openAt : List ℕ → List ℕ
+  openAt bs = L .held (last (L .cut) (L .hunting) bs)
+
+  -- what a caller of the receiver has of the bytes that the writer left in a memory, with anything behind them
+  abbrev pub sentTo : L .State × List ℕ → L .Message → List ℕ → List ℕ → Fed (Event (L .Message)) (L .State × List ℕ)
+  sentTo c m memory rest = called L c (take (length (L .frame m)) (writeOn L m memory .1) ++ rest)
+
+  -- reads back: a message that may be sent, written into memory that holds its frame, is handed out by a receiver in plain hunting that is fed
+  -- the bytes so written and then anything; exactly the frame is used, and there is no noise
+  pub record ReadBack (m : L .Message) (memory rest : List ℕ) (s : L .State) (store : List ℕ) : Type 0 where
+    pub answers : writeOn L m memory .0 ≡ done (length (L .frame m))
+    pub hears : sentTo (s, store) m memory rest .event ≡ some (message m)
+    pub uses : sentTo (s, store) m memory rest .used ≡ length (L .frame m)
+    pub quiet : L .noise (sentTo (s, store) m memory rest .after .0) ≡ L .noise s
+
+  abbrev pub ReadsBack : Type 0
+  ReadsBack =
+      (m : L .Message) (memory rest : List ℕ) (s : L .State) (store : List ℕ) → L .Typed m → L .ok m ≡ true → length (L .frame m) ≤ length memory
+      → Bytes rest → L .known s ≡ true → L .phaseOf s store ≡ L .hunting → L .size ≤ length store → ReadBack m memory rest s store
+
+  -- canonical: a message is accepted only where the stream holds exactly its frame, and only one that may be sent
+  abbrev pub Canonical : Type 0
+  Canonical =
+      (bs : List ℕ) → Bytes bs → (before after : List (Segment (L .Message))) (m : L .Message) → segments bs ≡ before ++ (accepted m ∷ after)
+      → (L .ok m ≡ true) × (bs ≡ wires (L .frame) before ++ L .frame m ++ wires (L .frame) after ++ openAt bs)
+
+  -- cut anywhere: a fresh receiver, its store handed back untouched, hands out the events, the noise and the open count of the uncut stream,
+  -- whatever the store held at first
+  pub record CutAt (pieces : List (List ℕ)) (store : List ℕ) : Type 0 where
+    pub hears : drive (called L) (L .fresh, store) pieces .0 ≡ heard (segments (join pieces))
+    pub noise : L .noise (drive (called L) (L .fresh, store) pieces .1 .0) ≡ noiseOf (segments (join pieces)) % 2 ^ 32
+    pub «open» : L .«open» (drive (called L) (L .fresh, store) pieces .1 .0) ≡ length (openAt (join pieces))
+
+  abbrev pub CutAnywhere : Type 0
+  CutAnywhere = (pieces : List (List ℕ)) (store : List ℕ) → Bytes (join pieces) → L .size ≤ length store → CutAt pieces store
+
+  -- accounted: every byte of a stream belongs to a segment or to what is open, once and in order
+  abbrev pub Accounted : Type 0
+  Accounted = (bs : List ℕ) → Bytes bs → wires (L .frame) (segments bs) ++ openAt bs ≡ bs
+
+  -- demand 3: of any two lists of calls the bytes are equal exactly when the kept messages are, and one's begin the other's exactly when its
+  -- kept messages do
+  abbrev pub Demand3 : Type 0
+  Demand3 =
+      (xs ys : List (Call (L .Message))) → AllOf (λ c. L .Typed (c .message)) xs → AllOf (λ c. L .Typed (c .message)) ys
+      → ((wire (writeOn L) xs ≡ wire (writeOn L) ys) ↔ (kept (writeOn L) xs ≡ kept (writeOn L) ys))
+      × (Begins (wire (writeOn L) xs) (wire (writeOn L) ys) ↔ Begins (kept (writeOn L) xs) (kept (writeOn L) ys))

@@ -1,0 +1,34 @@
+-- The receiver state that all links share, and its rules.
+use Prim.Native.Nat.{ℕ, _+_, _%_, _^_}
+use mathlib.Core.Bool.{Bool, cond, _&&_}
+use mathlib.Core.List.{List}
+use mathlib.Core.Option.{Option, none, some}
+use lib.ListN.{length}
+use lib.Dec.{eqb, leb, ltb}
+use Rattle.framing.specs.Segment.{Segment, noiseAfter}
+use Rattle.framing.specs.declared.State.{State}
+
+-- nothing read yet
+abbrev pub freshState : State
+freshState = record { mode = 0; count = 0; «open» = 0; noise = 0 }
+
+-- a state that does not give 12, on a link with so many modes, of which the first so many hunt, and of this size: the mode is known, the
+-- count is at most the size and, hunting, 0
+abbrev pub knownState : ℕ → ℕ → ℕ → State → Bool
+knownState modes hunting size s = ltb (s .mode) modes && cond (ltb (s .mode) hunting) (eqb (s .count) 0) (leb (s .count) size)
+
+-- the wire bytes held after a byte: those now held, where it came in plain hunting (mode 0) or closed a segment; else one more, in 32 bits
+abbrev pub openAfter : {M : Type 0} → Option (Segment M) → State → ℕ → ℕ
+openAfter none s held = cond (eqb (s .mode) 0) held ((s .«open» + 1) % 2 ^ 32)
+openAfter (some x) s held = held
+
+-- with the mode, the gathered bytes and the held wire bytes of each phase of a link
+module _ {P : Type 0} (modeOf : P → ℕ) (gathered held : P → List ℕ) where
+  -- the state after a byte that led to a phase and closed a segment or none
+  abbrev pub stateAfter : {M : Type 0} → State → P → Option (Segment M) → State
+  stateAfter s p o =
+      record { mode = modeOf p; count = length (gathered p); «open» = openAfter o s (length (held p)); noise = noiseAfter o (s .noise) }
+
+  -- the state of a phase and a noise count
+  abbrev pub stateOf : P → ℕ → State
+  stateOf p n = record { mode = modeOf p; count = length (gathered p); «open» = length (held p); noise = n }

@@ -1,0 +1,37 @@
+-- What a writer answers and leaves in lent memory, and what a list of its calls puts on the wire.
+use Prim.Native.Nat.{ℕ}
+use mathlib.Core.Bool.{Bool, cond}
+use mathlib.Core.List.{List, [], _∷_, _++_}
+use lib.ListN.{take}
+use Rattle.framing.specs.Answer.{Outcome, done, refused, storedAt}
+
+-- a writer: 3 where the message may not be sent, then 2; else the frame at the start of the memory, and nothing after it
+abbrev pub writes : {M : Type 0} → (M → Bool) → (M → List ℕ) → M → List ℕ → Outcome ℕ × List ℕ
+writes ok frame m memory = cond (ok m) (storedAt (frame m) memory 0) (refused 3, memory)
+
+-- a call of a writer: the message, and the memory lent
+pub record Call (M : Type 0) : Type 0 where
+  pub message : M
+  pub memory : List ℕ
+
+-- a call that is not refused adds its message ..
+abbrev pub keeps : {M : Type 0} → M → Outcome ℕ → List M → List M
+keeps m (done n) ms = m ∷ ms
+keeps m (refused n) ms = ms
+
+-- .. and the bytes that it left at the start of its memory
+abbrev pub leaves : List ℕ → Outcome ℕ → List ℕ → List ℕ
+leaves memory (done n) bs = take n memory ++ bs
+leaves memory (refused n) bs = bs
+
+-- over what any writer answers and leaves
+module _ {M : Type 0} (write : M → List ℕ → Outcome ℕ × List ℕ) where
+  -- the messages that the calls keep
+  abbrev pub kept : List (Call M) → List M
+  kept [] = []
+  kept (c ∷ cs) = keeps (c .message) (write (c .message) (c .memory) .0) (kept cs)
+
+  -- the bytes that they write
+  abbrev pub wire : List (Call M) → List ℕ
+  wire [] = []
+  wire (c ∷ cs) = leaves (write (c .message) (c .memory) .1) (write (c .message) (c .memory) .0) (wire cs)

@@ -1,0 +1,101 @@
+// What the links share: the numbers of refusals, the answers of writers, the state of a receiver and its rules. The theory of receivers and of
+// writers' calls, over any link, is in specs/ and proofs/.
+pub mod refusal;
+
+ghost use mathlib.Core.Path.{_≡_};
+ghost use Prim.Native.Nat.{_+_, _%_, _^_};
+ghost use Rattle.framing.specs.State.{freshState, knownState};
+
+// The answer of a call that makes bytes: how many, or the number of a refusal.
+pub enum Answer {
+    Done(usize),
+    Refused(u8),
+}
+
+// What a receiver keeps between calls: the link's mode, the count of gathered bytes, the wire bytes of what is open, the noise bytes.
+// Any numbers may stand in it. The mode is as wide as the count, since a struct without padding is copied faster.
+pub struct State {
+    pub mode: usize,
+    pub count: usize,
+    pub open: u32,
+    pub noise: u32,
+}
+
+// A receiver that has read nothing.
+pub fn fresh() -> State
+    ensures { λ r. ⌜ r ≡ freshState ⌝ }
+{
+    State {
+        mode: 0,
+        count: 0,
+        open: 0,
+        noise: 0,
+    }
+}
+
+// Whether a state does not give 12, on a link of so many modes, of which the first so many hunt, and of this size.
+pub fn is_known(state: State, modes: usize, hunting: usize, size: usize) -> bool
+    ensures { λ r. ⌜ r ≡ knownState modes hunting size state ⌝ }
+{
+    let mode = state.mode;
+    let count = state.count;
+    if mode < modes {
+        if mode < hunting {
+            count == 0
+        } else {
+            count <= size
+        }
+    } else {
+        false
+    }
+}
+
+// So many wire bytes are open, of which so many are gathered: out of plain hunting, or where a new start mark closes a frame.
+pub fn reopen(state: State, mode: usize, count: usize, open: u32) -> State
+    ensures { λ r. ⌜ r ≡ record { mode = mode; count = count; «open» = «open»; noise = state .noise } ⌝ }
+{
+    State {
+        mode: mode,
+        count: count,
+        open: open,
+        noise: state.noise,
+    }
+}
+
+// One more wire byte is open; the count of them goes round.
+pub fn hold(state: State, mode: usize, count: usize) -> State
+    ensures { λ r. ⌜ r ≡ record { mode = mode; count = count; «open» = (state .«open» + 1) % 2 ^ 32; noise = state .noise } ⌝ }
+{
+    let open = std::num::wrapping_add_u32(state.open, 1);
+    State {
+        mode: mode,
+        count: count,
+        open: open,
+        noise: state.noise,
+    }
+}
+
+// So many bytes of noise, and plain hunting; the count of noise goes round.
+pub fn add_noise(state: State, bytes: u32) -> State
+    ensures { λ r. ⌜ r ≡ record { mode = 0; count = 0; «open» = 0; noise = (state .noise + bytes) % 2 ^ 32 } ⌝ }
+{
+    let noise = std::num::wrapping_add_u32(state.noise, bytes);
+    State {
+        mode: 0,
+        count: 0,
+        open: 0,
+        noise: noise,
+    }
+}
+
+// The frame is over, by a message or by a refusal but 4: plain hunting.
+pub fn close(state: State) -> State
+    ensures { λ r. ⌜ r ≡ record { mode = 0; count = 0; «open» = 0; noise = state .noise } ⌝ }
+{
+    State {
+        mode: 0,
+        count: 0,
+        open: 0,
+        noise: state.noise,
+    }
+}

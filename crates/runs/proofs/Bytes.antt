@@ -1,0 +1,35 @@
+-- Lists of bytes, and their parts.
+use Prim.Native.Nat.{ℕ, zero, suc, _+_, _<_}
+use mathlib.Core.Path.{_≡_}
+use mathlib.Core.List.{List, [], _∷_, _++_}
+use native.Mathlib.Numerals.{add-one}
+use lib.Dec.{lit<}
+use lib.ListN.{length, take, drop, getD}
+use lib.Seq.{drop-cons, getD-append-add, getD-drop}
+use Rattle.runs.specs.Runs.{Bytes}
+
+-- what is left of l at index i, as a loop that counts up by one meets it
+pub drop-next : (l : List ℕ) (i : ℕ) → i < length l → drop i l ≡ getD l i 0 ∷ drop (i + 1) l
+drop-next l i h = rw (add-one i) (drop-cons l i 0 h)
+
+pub bytes-left : (u v : List ℕ) → Bytes (u ++ v) → Bytes u
+bytes-left [] v h i = lit< tt
+bytes-left (b ∷ u) v h zero = h 0
+bytes-left (b ∷ u) v h (suc i) = bytes-left u v (λ j. h (suc j)) i
+
+pub bytes-right : (u v : List ℕ) → Bytes (u ++ v) → Bytes v
+bytes-right u v h i = rw getD-append-add at (h (length u + i))
+
+pub bytes-append : (u v : List ℕ) → Bytes u → Bytes v → Bytes (u ++ v)
+bytes-append [] v hu hv i = hv i
+bytes-append (b ∷ u) v hu hv zero = hu 0
+bytes-append (b ∷ u) v hu hv (suc i) = bytes-append u v (λ j. hu (suc j)) hv i
+
+pub bytes-take : (n : ℕ) (u : List ℕ) → Bytes u → Bytes (take n u)
+bytes-take zero u h i = lit< tt
+bytes-take (suc n) [] h i = lit< tt
+bytes-take (suc n) (b ∷ u) h zero = h zero
+bytes-take (suc n) (b ∷ u) h (suc i) = bytes-take n u (λ j. h (suc j)) i
+
+pub bytes-drop : (n : ℕ) (u : List ℕ) → Bytes u → Bytes (drop n u)
+bytes-drop n u h i = rw getD-drop (h (n + i))

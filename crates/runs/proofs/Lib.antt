@@ -1,0 +1,5 @@
+-- `Cases` splits on a test, `Bytes` has lists of bytes, `Begins` runs that begin others, `Run` what a loop that stores a run keeps.
+pub mod Cases
+pub mod Bytes
+pub mod Begins
+pub mod Run

@@ -1,0 +1,18 @@
+-- Runs: lists of bytes or of other elements, as every crate speaks of them. A run stored into memory from a place on is the
+-- library's `sets memory place run`.
+use Prim.Native.Nat.{ℕ, _≤_, _<_}
+use mathlib.Core.Path.{_≡_}
+use mathlib.Core.List.{List, _++_}
+use lib.ListN.{length, drop, getD, getElem?}
+
+-- every element is a byte
+abbrev pub Bytes : List ℕ → Type 0
+Bytes u = (i : ℕ) → getD u i 0 < 256
+
+-- memory with a run laid over its start; what lies behind the run is as it was
+abbrev pub over : {A : Type 0} → List A → List A → List A
+over run memory = run ++ drop (length run) memory
+
+-- xs begins ys: it is at most as long, and the two are equal at each place that it has
+abbrev pub Begins : {A : Type 0} → List A → List A → Type 0
+Begins xs ys = (length xs ≤ length ys) × ((i : ℕ) → i < length xs → getElem? xs i ≡ getElem? ys i)
