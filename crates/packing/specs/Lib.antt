@@ -1,1 +1,4 @@
 pub mod Seven
+pub mod Packed
+pub mod Unpacked
+pub mod Contract

@@ -1,8 +1,12 @@
 -- Seven-bit values on the PCS wire.
 use Prim.Native.Nat.{ℕ}
-use mathlib.Core.Bool.{cond}
-use lib.Dec.{eqb}
+use mathlib.Core.Bool.{Bool, cond, _&&_}
+use lib.Dec.{eqb, leb}
 
 -- a value goes out as itself, 0 as 128
 abbrev pub sent : ℕ → ℕ
 sent v = cond (eqb v 0) 128 v
+
+-- a byte stands for a seven-bit value exactly from 1 to 128; the value is then b % 128
+unfoldable pub isSent : ℕ → Bool
+isSent b = leb 1 b && leb b 128

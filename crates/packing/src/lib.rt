@@ -1,10 +1,214 @@
-// PCS packing. A seven-bit value goes out as itself, 0 as 128.
+// PCS packing: data bytes in groups of up to seven, as bytes from 1 to 128, and back in place.
+use framing::Answer;
+use framing::refusal;
 ghost use mathlib.Core.Path.{_≡_};
-ghost use Rattle.packing.specs.Seven.{sent};
+ghost use Prim.Native.Nat.{_+_, _*_, _/_, _%_, _^_, _<_, _≤_, min};
+ghost use lib.ListN.{length, take, drop};
+ghost use lib.Seq.{sets};
+ghost use Rattle.framing.specs.Answer.{outcomeOf, storedAt};
+ghost use Rattle.packing.specs.Seven.{sent, isSent};
+ghost use Rattle.packing.specs.Packed.{lastPlace, packedGroup, packed, packedLength};
+ghost use Rattle.packing.specs.Unpacked.{unpackedGroup, dataOf, allSent, unusedClear, wellEnded, wellPacked};
+ghost use Rattle.packing.specs.Contract.{unpackedIn};
 
 // A value as it goes out: 0 as 128, any other as itself.
 pub fn sent_as(v: u8) -> u8
     ensures { λ r. ⌜ r ≡ sent v ⌝ }
 {
     if v == 0 { 128 } else { v }
+}
+
+// Whether some seven-bit value goes out as b: 1 to 128.
+pub fn is_sent(b: u8) -> bool
+    ensures { λ r. ⌜ r ≡ isSent b ⌝ }
+{
+    1 <= b && b <= 128
+}
+
+// The smaller of two numbers.
+fn min_of(a: usize, b: usize) -> usize
+    ensures { λ r. ⌜ r ≡ min a b ⌝ }
+{
+    if a < b { a } else { b }
+}
+
+// The place of the last byte's top bit in a group of k bytes.
+fn last_place(k: usize) -> u8
+    requires { ⌜ k ≤ 7 ⌝ }
+    ensures { λ r. ⌜ r ≡ lastPlace k ⌝ }
+{
+    0
+}
+
+// The byte that carries the top bits of a group of k bytes.
+fn tops_sent(top: u8, k: usize) -> u8
+    requires { ⌜ (k ≤ 7) × (top * 2 ^ lastPlace k < 128) ⌝ }
+    ensures { λ r. ⌜ r ≡ sent (top * 2 ^ lastPlace k) ⌝ }
+{
+    sent_as(top << last_place(k))
+}
+
+// Stores the group g, packed, from place at on.
+fn pack_group(g: &[u8], out: &mut [u8], at: usize)
+    requires { ⌜ (length (now g) ≤ 7) × (at + length (now g) < length (now out)) ⌝ }
+    ensures { λ _. ⌜ now (out .exit) ≡ sets (now (out .entry)) at (packedGroup (now (g .entry))) ⌝ }
+{
+    let mut top: u8 = 0;
+    let mut j = 0;
+    while j < g.len() {
+        let b = g[j];
+        out[at + j] = sent_as(b % 128);
+        top = 2 * top + b / 128;
+        j += 1;
+    }
+    out[at + j] = tops_sent(top, j);
+}
+
+// Stores the data, packed, from place at on, group by group.
+fn pack_all(data: &[u8], out: &mut [u8], at: usize)
+    requires { ⌜ at + packedLength (length (now «data»)) ≤ length (now out) ⌝ }
+    ensures { λ _. ⌜ now (out .exit) ≡ sets (now (out .entry)) at (packed (now («data» .entry))) ⌝ }
+{
+    let mut i = 0;
+    let mut n = 0;
+    while i < data.len() {
+        let k = min_of(7, data.len() - i);
+        let end = i + k;
+        pack_group(&data[i..end], out, at + n);
+        i = end;
+        n = n + k + 1;
+    }
+}
+
+// How many bytes the data pack to.
+pub fn packed_length(data: &[u8]) -> usize
+    ensures { λ r. ⌜ r ≡ packedLength (length (now («data» .entry))) ⌝ }
+{
+    data.len() + (data.len() + 6) / 7
+}
+
+// Packs the data into out from place at on and answers the count of bytes. Where they do not fit nothing is written.
+pub fn pack_into(data: &[u8], out: &mut [u8], at: usize) -> Answer
+    ensures { λ r. ⌜ (outcomeOf r, now (out .exit)) ≡ storedAt (packed (now («data» .entry))) (now (out .entry)) at ⌝ }
+{
+    let n = packed_length(data);
+    if out.len() < at || out.len() - at < n {
+        return Answer::Refused(refusal::OUTPUT_SHORT);
+    }
+    pack_all(data, out, at);
+    Answer::Done(n)
+}
+
+// Whether every byte of p lies in 1 to 128.
+fn all_sent(p: &[u8]) -> bool
+    ensures { λ r. ⌜ r ≡ allSent (now (p .entry)) ⌝ }
+{
+    let mut i = 0;
+    while i < p.len() {
+        if is_sent(p[i]) {
+            i += 1;
+        } else {
+            return false;
+        }
+    }
+    true
+}
+
+// Whether the top bits v of a group of k bytes set no unused place.
+fn unused_clear(v: u8, k: usize) -> bool
+    requires { ⌜ (k ≤ 7) × (v < 128) ⌝ }
+    ensures { λ r. ⌜ r ≡ unusedClear k v ⌝ }
+{
+    let place = last_place(k);
+    let size: u8 = 1 << k;
+    ((v >> place) % size) << place == v
+}
+
+// Whether n packed bytes, the last of them b, end in a group with a data byte and no unused place set.
+fn well_ended(n: usize, b: u8) -> bool
+    ensures { λ r. ⌜ r ≡ wellEnded n b ⌝ }
+{
+    if n % 8 == 1 {
+        false
+    } else {
+        unused_clear(b % 128, (n % 8 + 7) % 8)
+    }
+}
+
+// Whether p is well packed.
+fn well_packed(p: &[u8]) -> bool
+    ensures { λ r. ⌜ r ≡ wellPacked (now (p .entry)) ⌝ }
+{
+    let n = p.len();
+    if n == 0 {
+        return true;
+    }
+    if all_sent(p) {
+        well_ended(n, p[n - 1])
+    } else {
+        false
+    }
+}
+
+// The top bits of a group of k bytes, the last byte's at place 0, from the byte that carries them.
+fn tops_of(b: u8, k: usize) -> u8
+    requires { ⌜ k ≤ 7 ⌝ }
+    ensures { λ r. ⌜ r ≡ b % 128 / 2 ^ lastPlace k ⌝ }
+{
+    (b % 128) >> last_place(k)
+}
+
+// A data byte, from the byte that carries its low bits and from its place in the top bits.
+fn data_byte(low: u8, tops: u8, place: usize) -> u8
+    requires { ⌜ place < 8 ⌝ }
+    ensures { λ r. ⌜ r ≡ low % 128 + 128 * (tops / 2 ^ place % 2) ⌝ }
+{
+    low % 128 + 128 * ((tops >> place) % 2)
+}
+
+// Unpacks the group of k data bytes that stands at place from, to place to and on. The top bits are read before the first store.
+fn unpack_group(store: &mut [u8], to: usize, from: usize, k: usize)
+    requires { ⌜ (k ≤ 7) × (to ≤ from) × (from + k < length (now store)) ⌝ }
+    ensures { λ _. ⌜ now (store .exit) ≡ sets (now (store .entry)) to (unpackedGroup k (drop from (now (store .entry)))) ⌝ }
+{
+    let tops = tops_of(store[from + k], k);
+    let mut j = 0;
+    while j < k {
+        store[to + j] = data_byte(store[from + j], tops, k - 1 - j);
+        j += 1;
+    }
+}
+
+// Unpacks the count bytes from place from on, group by group, to place 0 and on. No byte is overwritten before it is read, since a
+// group is stored no further on than it stood.
+fn unpack_all(store: &mut [u8], from: usize, count: usize) -> usize
+    requires { ⌜ from + count ≤ length (now store) ⌝ }
+    ensures counted { λ r. ⌜ r ≡ length (dataOf (take count (drop from (now (store .entry))))) ⌝ }
+    ensures stored { λ r. ⌜ now (store .exit) ≡ sets (now (store .entry)) 0 (dataOf (take count (drop from (now (store .entry))))) ⌝ }
+{
+    let mut n = 0;
+    let mut e = 0;
+    while e < count {
+        let k = min_of(7, count - e - 1);
+        unpack_group(store, n, from + e, k);
+        n += k;
+        e = e + k + 1;
+    }
+    n
+}
+
+// Unpacks the count bytes from place from on, as far as they lie in the store, to place 0 and on, and answers the count of data bytes.
+// All bytes are checked before the first store, so badly packed ones leave the store as it came.
+pub fn unpack_in_place(store: &mut [u8], from: usize, count: usize) -> Answer
+    ensures { λ r. ⌜ (outcomeOf r, now (store .exit)) ≡ unpackedIn (now (store .entry)) from count ⌝ }
+{
+    let start = min_of(from, store.len());
+    let size = min_of(count, store.len() - start);
+    let end = start + size;
+    if well_packed(&store[start..end]) {
+        let n = unpack_all(store, start, size);
+        Answer::Done(n)
+    } else {
+        Answer::Refused(refusal::BADLY_PACKED)
+    }
 }

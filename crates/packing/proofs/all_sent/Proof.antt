@@ -1,0 +1,52 @@
+use mathlib.Core.Path.{_≡_, refl, sym, ap, _∙_}
+use mathlib.Core.Bool.{_&&_}
+use Prim.Native.Nat.{_+_, _-_, _≤_}
+use native.Mathlib.Omega.{arith}
+use borrow.Author.Needs.{needs}
+use lib.ListN.{length, drop, getD, drop-of-length-le}
+use Rattle.packing.specs.Seven.{isSent}
+use Rattle.packing.specs.Unpacked.{allSent}
+use Rattle.runs.proofs.Bytes.{drop-next}
+use Rattle.packing.proofs.all_sent.Statement.{statement}
+use Rattle.packing.proofs.all_sent.Tie as tie
+
+abbrev Inv-loop : tie.InvT-loop
+Inv-loop p i₀ i = (i ≤ length p) × (allSent (drop i p) ≡ allSent p)
+
+abbrev μ-loop : tie.MeasureT-loop
+μ-loop p i₀ i = length p - i
+
+-- byte i and those behind it
+next : (c : tie.In-loop Inv-loop μ-loop) →
+    let p = c .before .before .before .args .p .now in
+    (isSent (getD p (c .before .loop .i) 0) && allSent (drop (c .before .loop .i + 1) p)) ≡ allSent p
+unfolding allSent
+next c = sym (ap allSent (drop-next (c .before .before .before .args .p .now) (c .before .loop .i) (c .loop-test .taken))) ∙ c .before .loop .inv .1
+
+loop-holds : tie.Need-loop-holds Inv-loop μ-loop
+loop-holds c = (omega arith, refl)
+
+shared-slice-read-is-sent : tie.Need-shared-slice-read-is-sent Inv-loop μ-loop
+shared-slice-read-is-sent c = search needs
+
+is-sent-requires : tie.Need-is-sent-requires Inv-loop μ-loop
+is-sent-requires c κs = search needs
+
+add-i : tie.Need-add-i Inv-loop μ-loop
+add-i c = search needs
+
+loop-less : tie.Need-loop-less Inv-loop μ-loop
+loop-less c = search needs
+
+loop-again : tie.Need-loop-again Inv-loop μ-loop
+loop-again c = (omega arith, rw (sym (c .before .is-sent .ensures) ∙ c .if1 .taken) at (next (c .before .before .before)))
+
+returns : tie.Need-returns Inv-loop μ-loop
+returns c = rw (sym (c .before .is-sent .ensures) ∙ c .if1 .left) at (next (c .before .before .before))
+
+returns-2 : tie.Need-returns-2 Inv-loop μ-loop
+unfolding allSent
+returns-2 c = rw (drop-of-length-le (c .before .before .before .args .p .now) (c .loop-test .left)) at (c .before .loop .inv .1)
+
+pub all-sent-spec : {M : Type 1} → statement M
+all-sent-spec = tie.close (tie.spec Inv-loop μ-loop loop-holds shared-slice-read-is-sent is-sent-requires add-i loop-less loop-again returns returns-2)

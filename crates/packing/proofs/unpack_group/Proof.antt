@@ -1,0 +1,110 @@
+-- The low bytes behind byte j stand as they stood, since the data bytes are stored no further on.
+use mathlib.Core.Path.{_≡_, sym, ap, _∙_}
+use mathlib.Core.List.{List, [], _∷_}
+use Prim.Native.Nat.{ℕ, _+_, _-_, _*_, _/_, _%_, _^_, _<_, _≤_}
+use native.Mathlib.Omega.{arith}
+use lib.ListN.{length, take, drop, getD, length-take, length-drop, drop-of-length-le}
+use lib.Seq.{getD-take, getD-drop}
+use Rattle.runs.proofs.Run.{Run, run-start, run-one, run-get, run-end}
+use borrow.Author.Needs.{needs}
+use Rattle.packing.specs.Packed.{lastPlace}
+use Rattle.packing.specs.Unpacked.{joined, unpackedGroup}
+use Rattle.packing.proofs.Group.{length-unpackedGroup}
+use Rattle.runs.proofs.Bytes.{drop-next}
+use Rattle.packing.proofs.unpack_group.Statement.{statement}
+use Rattle.packing.proofs.unpack_group.Tie as tie
+
+abbrev Inv-loop : tie.InvT-loop
+Inv-loop store₀ to from k tops j₀ store j =
+    (j ≤ k) × Run store₀ to (unpackedGroup k (drop from store₀)) j (joined tops (drop j (take k (drop from store₀)))) store
+
+abbrev μ-loop : tie.MeasureT-loop
+μ-loop store₀ to from k tops j₀ store j = k - j
+
+-- the low byte at hand, and those behind it
+next : (d : List ℕ) (from k j t : ℕ) → from + k < length d → j < k
+    → joined t (drop j (take k (drop from d))) ≡ (getD d (from + j) 0 % 128 + 128 * (t / 2 ^ (k - 1 - j) % 2)) ∷ joined t (drop (j + 1) (take k (drop from d)))
+unfolding joined
+next d from k j t h l =
+    let lows : List ℕ = take k (drop from d) in
+    let long : length lows ≡ k = simp (length-take, length-drop) (omega arith) in
+    let at-j : getD lows j 0 ≡ getD d (from + j) 0 = getD-take k (drop from d) j 0 l ∙ getD-drop from d j 0 in
+    let place : length (drop (j + 1) lows) ≡ k - 1 - j = rw (length-drop, long) (omega arith) in
+    rw (← at-j, ← place) (ap (joined t) (drop-next lows j (omega arith)))
+
+abbrev S : tie.At-loop Inv-loop μ-loop → tie.Start Inv-loop μ-loop
+S a = a .before .before .before .before
+
+abbrev Store : tie.At-loop Inv-loop μ-loop → List ℕ
+Store a = S a .args .store .now
+
+add-tops-of : tie.Need-add-tops-of Inv-loop μ-loop
+add-tops-of c = search needs
+
+slice-read-tops-of : tie.Need-slice-read-tops-of Inv-loop μ-loop
+slice-read-tops-of c = search needs
+
+tops-of-requires : tie.Need-tops-of-requires Inv-loop μ-loop
+tops-of-requires c κs = search needs
+
+loop-holds : tie.Need-loop-holds Inv-loop μ-loop
+unfolding unpackedGroup
+loop-holds c =
+    let s = c .before .before .before in
+    let d : List ℕ = s .args .store .now in
+    let from : ℕ = s .args .from in
+    let k : ℕ = s .args .k in
+    let room : k ≤ length (drop from d) = simp length-drop (omega arith) in
+    let tops : c .tops-of .result ≡ getD (drop from d) k 0 % 128 / 2 ^ lastPlace k = c .tops-of .ensures ∙ ap (λ (n : ℕ). n % 128 / 2 ^ lastPlace k) (sym (getD-drop from d k 0)) in
+    (omega arith, run-start (omega (arith, length-unpackedGroup k (drop from d) room)) (ap (λ (t : ℕ). joined t (take k (drop from d))) tops))
+
+add-data-byte : tie.Need-add-data-byte Inv-loop μ-loop
+add-data-byte c = search needs
+
+slice-read-data-byte : tie.Need-slice-read-data-byte Inv-loop μ-loop
+slice-read-data-byte c = search needs
+
+sub-data-byte : tie.Need-sub-data-byte Inv-loop μ-loop
+sub-data-byte c = search needs
+
+sub-data-byte-2 : tie.Need-sub-data-byte-2 Inv-loop μ-loop
+sub-data-byte-2 c = search needs
+
+data-byte-requires : tie.Need-data-byte-requires Inv-loop μ-loop
+data-byte-requires c κs = search needs
+
+add-store : tie.Need-add-store Inv-loop μ-loop
+add-store c = search needs
+
+slice-write-store : tie.Need-slice-write-store Inv-loop μ-loop
+slice-write-store c = search needs
+
+add-j : tie.Need-add-j Inv-loop μ-loop
+add-j c = search needs
+
+loop-less : tie.Need-loop-less Inv-loop μ-loop
+loop-less c = search needs
+
+loop-again : tie.Need-loop-again Inv-loop μ-loop
+loop-again c =
+    let a = c .before .before .before in
+    let t : ℕ = a .before .tops-of .result in
+    let j : ℕ = a .loop .j in (
+      omega arith,
+      run-one (a .loop .inv .1) (next (Store a) (S a .args .from) (S a .args .k) j t (S a .pre .2) (c .before .before .loop-test .taken))
+          (c .data-byte .ensures ∙ ap (λ (b : ℕ). b % 128 + 128 * (t / 2 ^ (S a .args .k - 1 - j) % 2)) (run-get 0 (S a .args .from + j) (omega arith) (a .loop .inv .1))),
+    )
+
+same-length : tie.Need-same-length Inv-loop μ-loop
+same-length c = c .before .loop .inv .1 .long
+
+returns : tie.Need-returns Inv-loop μ-loop
+unfolding joined
+returns c =
+    let a = c .before in
+    let rest : drop (a .loop .j) (take (S a .args .k) (drop (S a .args .from) (Store a))) ≡ [] = drop-of-length-le _ {i = a .loop .j} (simp (length-take, length-drop) (omega arith)) in
+    run-end (a .loop .inv .1) (ap (joined (a .before .tops-of .result)) rest)
+
+pub unpack-group-spec : {M : Type 1} → statement M
+unpack-group-spec =
+    tie.close (tie.spec Inv-loop μ-loop add-tops-of slice-read-tops-of tops-of-requires loop-holds add-data-byte slice-read-data-byte sub-data-byte sub-data-byte-2 data-byte-requires add-store slice-write-store add-j loop-less loop-again same-length returns)

@@ -1,0 +1,87 @@
+use mathlib.Core.Path.{_≡_, sym, ap, ap₂, _∙_}
+use mathlib.Core.List.{List}
+use Prim.Native.Nat.{ℕ, _+_, _-_}
+use native.Mathlib.Omega.{arith}
+use borrow.Author.Needs.{needs}
+use lib.ListN.{length, take, drop}
+use lib.Seq.{sets}
+use Rattle.framing.specs.Answer.{done}
+use Rattle.packing.specs.Unpacked.{dataOf, wellPacked}
+use Rattle.packing.proofs.Inside.{inside}
+use Rattle.packing.proofs.Contract.{unpacked-done, unpacked-refused, well-unpacks, badly-unpacks}
+use Rattle.packing.proofs.unpack_in_place.Statement.{statement}
+use Rattle.packing.proofs.unpack_in_place.Tie as tie
+
+-- the bytes that are called packed
+abbrev P : tie.Start → List ℕ
+P s = take (s .args .count) (drop (s .args .from) (s .args .store .now))
+
+-- they are the part that the code takes
+part : (t : tie.After-min-of2) →
+    take (t .min-of2 .result) (drop (t .before .min-of .result) (t .before .before .before .args .store .now)) ≡ P (t .before .before .before)
+part t =
+    let s = t .before .before .before in
+    inside (s .args .store .now) (s .args .from) (s .args .count) (t .before .min-of .result) (t .min-of2 .result)
+    (t .before .min-of .ensures) (t .min-of2 .ensures)
+
+-- and `&store[start..end]` is that part
+tested : (t : tie.After-well-packed) → wellPacked (P (t .before .before .before .before .before .before)) ≡ t .well-packed .result
+tested t =
+    let m = t .before .before .before in
+    let start : ℕ = m .before .min-of .result in
+    let n : start + m .min-of2 .result - start ≡ m .min-of2 .result = omega arith in
+    sym (t .well-packed .ensures
+    ∙ ap (λ (k : ℕ). wellPacked (take k (drop start (m .before .before .before .args .store .now)))) n
+    ∙ ap wellPacked (part m))
+
+min-of-requires : tie.Need-min-of-requires
+min-of-requires c κs = search needs
+
+sub-min-of : tie.Need-sub-min-of
+sub-min-of c = search needs
+
+min-of-requires-2 : tie.Need-min-of-requires-2
+min-of-requires-2 c κs = search needs
+
+add-end : tie.Need-add-end
+add-end c = search needs
+
+sub-well-packed : tie.Need-sub-well-packed
+sub-well-packed c = search needs
+
+part-well-packed-start : tie.Need-part-well-packed-start
+part-well-packed-start c = search needs
+
+part-well-packed-end : tie.Need-part-well-packed-end
+part-well-packed-end c = search needs
+
+well-packed-requires : tie.Need-well-packed-requires
+well-packed-requires c κs = search needs
+
+unpack-all-requires : tie.Need-unpack-all-requires
+unpack-all-requires c κs = search needs
+
+same-length : tie.Need-same-length
+same-length c = search needs
+
+returns : tie.Need-returns
+returns c =
+    let k = c .before .before in
+    let t = k .before .before .before in
+    let m = t .before .before .before in
+    let s = m .before .before .before in
+    ap₂ (λ (n : ℕ) (l : List ℕ). (done n, l)) (k .unpack-all .ensures .0 ∙ ap (λ (p : List ℕ). length (dataOf p)) (part m))
+    (k .unpack-all .ensures .1 ∙ ap (λ (p : List ℕ). sets (s .args .store .now) 0 (dataOf p)) (part m))
+    ∙ sym (unpacked-done (s .args .store .now) (s .args .from) (s .args .count) (dataOf (P s)) (well-unpacks (P s) (tested t ∙ k .before .before .if1 .taken)))
+
+same-length-2 : tie.Need-same-length-2
+same-length-2 c = search needs
+
+returns-2 : tie.Need-returns-2
+returns-2 c =
+    let t = c .before in
+    let s = t .before .before .before .before .before .before in
+    sym (unpacked-refused (s .args .store .now) (s .args .from) (s .args .count) (badly-unpacks (P s) (tested t ∙ c .if1 .left)))
+
+pub unpack-in-place-spec : {M : Type 1} → statement M
+unpack-in-place-spec = tie.close (tie.spec min-of-requires sub-min-of min-of-requires-2 add-end sub-well-packed part-well-packed-start part-well-packed-end well-packed-requires unpack-all-requires same-length returns same-length-2 returns-2)
