@@ -1,0 +1,30 @@
+-- What is claimed of check values beyond the contracts of the functions. proofs/CheckValue.antt proves each claim.
+use Prim.Native.Nat.{ℕ, _+_, _*_, _-_, _^_, _≤_, _<_}
+use mathlib.Core.Path.{_≡_}
+use mathlib.Core.Logic.{_≢_}
+use mathlib.Core.List.{List}
+use lib.ListN.{length, getElem?}
+use Rattle.runs.specs.Runs.{Bytes}
+use Rattle.checksum.specs.Crc.{run, crc16Of, crc32Of}
+
+-- two runs differ only within n neighbouring bytes: for some k they agree below place k and from place k + n on
+pub record DifferWithin (n : ℕ) (u v : List ℕ) : Type 0 where
+  pub k : ℕ
+  pub below : (i : ℕ) → i < k → getElem? u i ≡ getElem? v i
+  pub above : (i : ℕ) → k + n ≤ i → getElem? u i ≡ getElem? v i
+
+-- f tells apart different runs of bytes, equally long ([] and [0] share a CRC of start 0), that differ only within n neighbouring bytes
+abbrev pub Detects : ℕ → (List ℕ → ℕ) → Type 0
+Detects n f = (u v : List ℕ) → Bytes u → Bytes v → length u ≡ length v → DifferWithin n u v → u ≢ v → f u ≢ f v
+
+-- a register of n bytes, from any start, detects n bytes where the register constant p has its top bit set
+abbrev pub CheckValueLaw : Type 0
+CheckValueLaw = (n p start : ℕ) → 2 ^ (8 * n - 1) ≤ p → p < 2 ^ (8 * n) → start < 2 ^ (8 * n) → Detects n (run p start)
+
+-- the CRC of MDU detects two bytes
+abbrev pub Crc16Detects : Type 0
+Crc16Detects = Detects 2 crc16Of
+
+-- the CRC of the expansion link detects four bytes
+abbrev pub Crc32Detects : Type 0
+Crc32Detects = Detects 4 crc32Of

@@ -1,0 +1,4 @@
+pub mod Crc
+pub mod ShiftTable
+pub mod Sum
+pub mod Claims
