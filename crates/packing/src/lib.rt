@@ -1,6 +1,7 @@
 // PCS packing: data bytes in groups of up to seven, as bytes from 1 to 128, and back in place.
 use framing::Answer;
 use framing::refusal;
+use runs::least;
 ghost use mathlib.Core.Path.{_≡_};
 ghost use Prim.Native.Nat.{_+_, _*_, _/_, _%_, _^_, _<_, _≤_, min};
 ghost use lib.ListN.{length, take, drop};
@@ -23,13 +24,6 @@ pub fn is_sent(b: u8) -> bool
     ensures { λ r. ⌜ r ≡ isSent b ⌝ }
 {
     1 <= b && b <= 128
-}
-
-// The smaller of two numbers.
-fn min_of(a: usize, b: usize) -> usize
-    ensures { λ r. ⌜ r ≡ min a b ⌝ }
-{
-    if a < b { a } else { b }
 }
 
 // The place of the last byte's top bit in a group of k bytes.
@@ -72,7 +66,7 @@ fn pack_all(data: &[u8], out: &mut [u8], at: usize)
     let mut i = 0;
     let mut n = 0;
     while i < data.len() {
-        let k = min_of(7, data.len() - i);
+        let k = least(7, data.len() - i);
         let end = i + k;
         pack_group(&data[i..end], out, at + n);
         i = end;
@@ -189,7 +183,7 @@ fn unpack_all(store: &mut [u8], from: usize, count: usize) -> usize
     let mut n = 0;
     let mut e = 0;
     while e < count {
-        let k = min_of(7, count - e - 1);
+        let k = least(7, count - e - 1);
         unpack_group(store, n, from + e, k);
         n += k;
         e = e + k + 1;
@@ -202,8 +196,8 @@ fn unpack_all(store: &mut [u8], from: usize, count: usize) -> usize
 pub fn unpack_in_place(store: &mut [u8], from: usize, count: usize) -> Answer
     ensures { λ r. ⌜ (outcomeOf r, now (store .exit)) ≡ unpackedIn (now (store .entry)) from count ⌝ }
 {
-    let start = min_of(from, store.len());
-    let size = min_of(count, store.len() - start);
+    let start = least(from, store.len());
+    let size = least(count, store.len() - start);
     let end = start + size;
     if well_packed(&store[start..end]) {
         let n = unpack_all(store, start, size);

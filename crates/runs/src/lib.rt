@@ -1,1 +1,49 @@
-// Runs of bytes: definitions and laws for every crate above, in specs/ and proofs/. There is no code here.
+// Runs of bytes, for every crate above: definitions in specs/, laws in proofs/, and here numbers of up to four bytes, low byte first, read from and
+// stored in slices. No function asks anything of its caller: bytes that are not there are not read, and places that are not there not stored to.
+ghost use mathlib.Core.Path.{_≡_};
+ghost use Prim.Native.Nat.{_-_, min};
+ghost use lib.ListN.{take, drop};
+ghost use lib.Seq.{sets};
+ghost use Rattle.runs.specs.Number.{number, bytesOf};
+
+// The smaller of two numbers.
+pub fn least(a: usize, b: usize) -> usize
+    ensures { λ r. ⌜ r ≡ min a b ⌝ }
+{
+    if a < b { a } else { b }
+}
+
+// How many places a run of n has from a place on.
+fn left(n: usize, at: usize) -> usize
+    ensures { λ r. ⌜ r ≡ n - at ⌝ }
+{
+    if at < n { n - at } else { 0 }
+}
+
+// The number that the bytes from a place stand for, at most size of them and at most four.
+pub fn number_at(s: &[u8], at: usize, size: usize) -> u32
+    ensures { λ r. ⌜ r ≡ number (take (min size 4) (drop at (now (s .entry)))) ⌝ }
+{
+    let mut n: u32 = 0;
+    let mut k = least(least(size, 4), left(s.len(), at));
+    while 0 < k {
+        k -= 1;
+        let b = s[at + k] as u32;
+        n = n * 256 + b;
+    }
+    n
+}
+
+// Stores size bytes of a number from a place on, as far as the slice goes.
+pub fn put_number(out: &mut [u8], at: usize, size: usize, n: u32)
+    ensures { λ _. ⌜ now (out .exit) ≡ sets (now (out .entry)) at (bytesOf size n) ⌝ }
+{
+    let stop = least(size, left(out.len(), at));
+    let mut rest = n;
+    let mut k = 0;
+    while k < stop {
+        out[at + k] = (rest % 256) as u8;
+        rest = rest / 256;
+        k += 1;
+    }
+}

@@ -42,20 +42,20 @@ counts : (a : tie.At-loop Inv-loop μ-loop) → a .loop .n + packedLength (lengt
 counts a = rw (length-packed (drop (a .loop .i) (D a)), length-packed (D a), length-drop) at (a .loop .inv .1 .left)
 
 -- the group at hand
-abbrev Group : tie.After-min-of Inv-loop μ-loop → List ℕ
-Group t = part (D (t .before .before)) (t .before .before .loop .i) (t .min-of .result)
+abbrev Group : tie.After-least Inv-loop μ-loop → List ℕ
+Group t = part (D (t .before .before)) (t .before .before .loop .i) (t .least .result)
 
-group-length : (t : tie.After-min-of Inv-loop μ-loop) → length (Group t) ≡ t .min-of .result
-group-length t = part-length (D (t .before .before)) (t .before .before .loop .i) (t .min-of .result) (t .before .loop-test .taken) (t .min-of .ensures)
+group-length : (t : tie.After-least Inv-loop μ-loop) → length (Group t) ≡ t .least .result
+group-length t = part-length (D (t .before .before)) (t .before .before .loop .i) (t .least .result) (t .before .loop-test .taken) (t .least .ensures)
 
 loop-holds : tie.Need-loop-holds Inv-loop μ-loop
 loop-holds c = (omega arith, run-start (rw length-packed (c .before .before .pre)) refl)
 
-sub-min-of : tie.Need-sub-min-of Inv-loop μ-loop
-sub-min-of c = search needs
+sub-least : tie.Need-sub-least Inv-loop μ-loop
+sub-least c = search needs
 
-min-of-requires : tie.Need-min-of-requires Inv-loop μ-loop
-min-of-requires c κs = search needs
+least-requires : tie.Need-least-requires Inv-loop μ-loop
+least-requires c κs = search needs
 
 add-end : tie.Need-add-end Inv-loop μ-loop
 add-end c = search needs
@@ -77,7 +77,7 @@ pack-group-requires c κs =
     let t = c .before .before in
     let a = t .before .before in
     let s = a .before .before .before in
-    (omega (arith, group-length t), rw (group-length t, a .loop .inv .1 .long) (room (length (D a)) (a .loop .i) (t .min-of .result) (a .loop .n) (s .args .at) _ (t .before .loop-test .taken) (t .min-of .ensures) (counts a) (s .pre)))
+    (omega (arith, group-length t), rw (group-length t, a .loop .inv .1 .long) (room (length (D a)) (a .loop .i) (t .least .result) (a .loop .n) (s .args .at) _ (t .before .loop-test .taken) (t .least .ensures) (counts a) (s .pre)))
 
 add-n : tie.Need-add-n Inv-loop μ-loop
 add-n c = omega (arith, counts (c .before .before .before .before .before .before .before))
@@ -94,7 +94,7 @@ loop-again c =
     let a = t .before .before in (
       search needs,
       run-part (packedGroup (Group t)) (a .loop .inv .1)
-          (part-next (D a) (a .loop .i) (t .min-of .result) (t .before .loop-test .taken) (t .min-of .ensures))
+          (part-next (D a) (a .loop .i) (t .least .result) (t .before .loop-test .taken) (t .least .ensures))
           (omega (arith, length-group (Group t), group-length t))
           (c .before .before .pack-group .ensures),
     )
@@ -107,4 +107,4 @@ returns c = run-end (c .before .loop .inv .1) (ap packed (drop-of-length-le (D (
 
 pub pack-all-spec : {M : Type 1} → statement M
 pack-all-spec =
-    tie.close (tie.spec Inv-loop μ-loop loop-holds sub-min-of min-of-requires add-end sub-pack-group part-pack-group-start part-pack-group-end add-pack-group pack-group-requires add-n add-n-2 loop-less loop-again same-length returns)
+    tie.close (tie.spec Inv-loop μ-loop loop-holds sub-least least-requires add-end sub-pack-group part-pack-group-start part-pack-group-end add-pack-group pack-group-requires add-n add-n-2 loop-less loop-again same-length returns)

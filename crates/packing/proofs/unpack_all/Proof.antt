@@ -58,14 +58,14 @@ loop-holds c =
     let n : length p ≤ length (s .args .store .now) = simp (length-take, length-drop) (omega arith) in
     (omega arith, omega arith, run-start (omega (arith, length-dataOf p)) refl)
 
-sub-min-of : tie.Need-sub-min-of Inv-loop μ-loop
-sub-min-of c = search needs
+sub-least : tie.Need-sub-least Inv-loop μ-loop
+sub-least c = search needs
 
-sub-min-of-2 : tie.Need-sub-min-of-2 Inv-loop μ-loop
-sub-min-of-2 c = search needs
+sub-least-2 : tie.Need-sub-least-2 Inv-loop μ-loop
+sub-least-2 c = search needs
 
-min-of-requires : tie.Need-min-of-requires Inv-loop μ-loop
-min-of-requires c κs = search needs
+least-requires : tie.Need-least-requires Inv-loop μ-loop
+least-requires c κs = search needs
 
 add-unpack-group : tie.Need-add-unpack-group Inv-loop μ-loop
 add-unpack-group c = search needs
@@ -93,13 +93,13 @@ loop-again c =
     let from : ℕ = S a .args .from in
     let count : ℕ = S a .args .count in
     let e : ℕ = a .loop .e in
-    let k : ℕ = t .min-of .result in
+    let k : ℕ = t .least .result in
     let n : ℕ = a .loop .n in (
       omega arith,
       omega arith,
       run-part (unpackedGroup k (drop (from + e) d)) (a .loop .inv .2)
-          (next d from count e k (S a .pre) (t .before .loop-test .taken) (t .min-of .ensures))
-          (ap (λ (j : ℕ). n + j) (sym (group-length d from count e k (S a .pre) (t .before .loop-test .taken) (t .min-of .ensures))))
+          (next d from count e k (S a .pre) (t .before .loop-test .taken) (t .least .ensures))
+          (ap (λ (j : ℕ). n + j) (sym (group-length d from count e k (S a .pre) (t .before .loop-test .taken) (t .least .ensures))))
           (c .before .before .unpack-group .ensures
           ∙ ap₂ (λ (i : ℕ) (l : List ℕ). sets (a .loop .store) i (unpackedGroup k l)) (sym (zero-add n)) (run-drop (from + e) (omega arith) (a .loop .inv .2))),
     )
@@ -116,4 +116,4 @@ returns c =
 
 pub unpack-all-spec : {M : Type 1} → statement M
 unpack-all-spec =
-    tie.close (tie.spec Inv-loop μ-loop loop-holds sub-min-of sub-min-of-2 min-of-requires add-unpack-group unpack-group-requires add-n add-e add-e-2 loop-less loop-again same-length returns)
+    tie.close (tie.spec Inv-loop μ-loop loop-holds sub-least sub-least-2 least-requires add-unpack-group unpack-group-requires add-n add-e add-e-2 loop-less loop-again same-length returns)

@@ -17,31 +17,31 @@ abbrev P : tie.Start → List ℕ
 P s = take (s .args .count) (drop (s .args .from) (s .args .store .now))
 
 -- they are the part that the code takes
-part : (t : tie.After-min-of2) →
-    take (t .min-of2 .result) (drop (t .before .min-of .result) (t .before .before .before .args .store .now)) ≡ P (t .before .before .before)
+part : (t : tie.After-least2) →
+    take (t .least2 .result) (drop (t .before .least .result) (t .before .before .before .args .store .now)) ≡ P (t .before .before .before)
 part t =
     let s = t .before .before .before in
-    inside (s .args .store .now) (s .args .from) (s .args .count) (t .before .min-of .result) (t .min-of2 .result)
-    (t .before .min-of .ensures) (t .min-of2 .ensures)
+    inside (s .args .store .now) (s .args .from) (s .args .count) (t .before .least .result) (t .least2 .result)
+    (t .before .least .ensures) (t .least2 .ensures)
 
 -- and `&store[start..end]` is that part
 tested : (t : tie.After-well-packed) → wellPacked (P (t .before .before .before .before .before .before)) ≡ t .well-packed .result
 tested t =
     let m = t .before .before .before in
-    let start : ℕ = m .before .min-of .result in
-    let n : start + m .min-of2 .result - start ≡ m .min-of2 .result = omega arith in
+    let start : ℕ = m .before .least .result in
+    let n : start + m .least2 .result - start ≡ m .least2 .result = omega arith in
     sym (t .well-packed .ensures
     ∙ ap (λ (k : ℕ). wellPacked (take k (drop start (m .before .before .before .args .store .now)))) n
     ∙ ap wellPacked (part m))
 
-min-of-requires : tie.Need-min-of-requires
-min-of-requires c κs = search needs
+least-requires : tie.Need-least-requires
+least-requires c κs = search needs
 
-sub-min-of : tie.Need-sub-min-of
-sub-min-of c = search needs
+sub-least : tie.Need-sub-least
+sub-least c = search needs
 
-min-of-requires-2 : tie.Need-min-of-requires-2
-min-of-requires-2 c κs = search needs
+least-requires-2 : tie.Need-least-requires-2
+least-requires-2 c κs = search needs
 
 add-end : tie.Need-add-end
 add-end c = search needs
@@ -84,4 +84,4 @@ returns-2 c =
     sym (unpacked-refused (s .args .store .now) (s .args .from) (s .args .count) (badly-unpacks (P s) (tested t ∙ c .if1 .left)))
 
 pub unpack-in-place-spec : {M : Type 1} → statement M
-unpack-in-place-spec = tie.close (tie.spec min-of-requires sub-min-of min-of-requires-2 add-end sub-well-packed part-well-packed-start part-well-packed-end well-packed-requires unpack-all-requires same-length returns same-length-2 returns-2)
+unpack-in-place-spec = tie.close (tie.spec least-requires sub-least least-requires-2 add-end sub-well-packed part-well-packed-start part-well-packed-end well-packed-requires unpack-all-requires same-length returns same-length-2 returns-2)

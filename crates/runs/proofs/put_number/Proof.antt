@@ -1,0 +1,79 @@
+-- `runs::put_number` meets its contract: the bytes that are left, stored from here, give the whole.
+use Prim.Native.Nat.{_+_, _-_, _≤_, min}
+use mathlib.Core.Path.{_≡_, refl, sym, ap, _∙_}
+use native.Mathlib.Omega.{arith}
+use lib.ListN.{length, length-set}
+use lib.Seq.{sets}
+use Rattle.runs.specs.Number.{bytesOf}
+use Rattle.runs.proofs.Number.{put-start, put-step, put-end}
+use Rattle.runs.proofs.put_number.Statement.{statement}
+use Rattle.runs.proofs.put_number.Tie as tie
+
+abbrev Inv-loop : tie.InvT-loop
+Inv-loop out₀ at size n stop rest₀ k₀ out rest k =
+    (k ≤ stop) × ((length out ≡ length out₀) × (sets out (at + k) (bytesOf (size - k) rest) ≡ sets out₀ at (bytesOf size n)))
+
+abbrev μ-loop : tie.MeasureT-loop
+μ-loop out₀ at size n stop rest₀ k₀ out rest k = stop - k
+
+left-requires : tie.Need-left-requires Inv-loop μ-loop
+left-requires c κs = tt
+
+-- where the loop stops
+module _ (c : tie.At-loop Inv-loop μ-loop) where
+  stops : c .before .least .result ≡ min (c .before .before .before .before .args .size) (length (c .before .before .before .before .args .out .now) - c .before .before .before .before .args .at)
+  stops = c .before .least .ensures ∙ ap (min (c .before .before .before .before .args .size)) (c .before .before .left .ensures)
+
+least-requires : tie.Need-least-requires Inv-loop μ-loop
+least-requires c κs = tt
+
+loop-holds : tie.Need-loop-holds Inv-loop μ-loop
+loop-holds c = (omega arith, (refl, put-start _ _ _ _))
+
+cast-out : tie.Need-cast-out Inv-loop μ-loop
+cast-out c = omega arith
+
+add-out : tie.Need-add-out Inv-loop μ-loop
+add-out c = omega (arith, stops (c .before), c .before .before .before .before .before .good)
+
+slice-write-out : tie.Need-slice-write-out Inv-loop μ-loop
+slice-write-out c = omega (arith, stops (c .before))
+
+add-k : tie.Need-add-k Inv-loop μ-loop
+add-k c = omega arith
+
+loop-less : tie.Need-loop-less Inv-loop μ-loop
+loop-less c = omega arith
+
+loop-again : tie.Need-loop-again Inv-loop μ-loop
+loop-again c =
+    let a = c .before .before .before .before .before .args in
+    let l = c .before .loop in
+    (omega arith, (simp length-set (l .inv .1 .0), put-step (l .out) (a .at) (a .size) (l .k) (l .rest) (omega (arith, stops (c .before))) ∙ l .inv .1 .1))
+
+same-length : tie.Need-same-length Inv-loop μ-loop
+same-length c = c .before .loop .inv .1 .0
+
+returns : tie.Need-returns Inv-loop μ-loop
+returns c =
+    let a = c .before .before .before .before .before .args in
+    let l = c .before .loop in
+    sym (put-end (l .out) (a .at) (a .size) (l .k) (l .rest) (omega (arith, stops (c .before)))) ∙ l .inv .1 .1
+
+pub put-number-spec : {M : Type 1} → statement M
+put-number-spec =
+    tie.close
+    (tie.spec
+    Inv-loop
+    μ-loop
+    left-requires
+    least-requires
+    loop-holds
+    cast-out
+    add-out
+    slice-write-out
+    add-k
+    loop-less
+    loop-again
+    same-length
+    returns)
