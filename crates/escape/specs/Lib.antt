@@ -1,0 +1,5 @@
+pub mod Code
+pub mod Dle
+pub mod Expansion
+pub mod Claims
+pub mod Form

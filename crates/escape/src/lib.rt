@@ -1,0 +1,196 @@
+// Hiding bytes between the marks of a frame: DLE doubling and the expansion escape.
+ghost use mathlib.Core.Path.{_≡_};
+ghost use Prim.Native.Nat.{_+_, _≤_};
+ghost use lib.Dec.{leb};
+ghost use lib.ListN.{length};
+ghost use lib.Seq.{sets};
+ghost use Rattle.framing.specs.Answer.{outcomeOf, storedAt};
+ghost use Rattle.escape.specs.Code.{meaningOf, hide, hideBy};
+ghost use Rattle.escape.specs.Dle.{dle};
+ghost use Rattle.escape.specs.Expansion.{expansion};
+ghost use Rattle.escape.specs.Form.{hides, runOf};
+use framing::Answer;
+use framing::refusal;
+
+// What a wire byte means between the marks: it completes this byte, it is half of an escape, it is or completes a mark, or it is wrongly coded.
+pub enum Meaning {
+    Byte(u8),
+    Waits,
+    Start,
+    End,
+    Wrong,
+}
+
+// A DLE byte with no 10 waiting.
+pub fn dle_plain(byte: u8) -> Meaning
+    ensures { λ r. ⌜ meaningOf r ≡ dle .plain byte ⌝ }
+{
+    match byte {
+        0x10 => Meaning::Waits,
+        _ => Meaning::Byte(byte),
+    }
+}
+
+// A DLE byte after a 10.
+pub fn dle_after(byte: u8) -> Meaning
+    ensures { λ r. ⌜ meaningOf r ≡ dle .after byte ⌝ }
+{
+    match byte {
+        0x02 => Meaning::Start,
+        0x03 => Meaning::End,
+        0x10 => Meaning::Byte(0x10),
+        _ => Meaning::Wrong,
+    }
+}
+
+// An expansion byte with no FF waiting.
+pub fn expansion_plain(byte: u8) -> Meaning
+    ensures { λ r. ⌜ meaningOf r ≡ expansion .plain byte ⌝ }
+{
+    match byte {
+        0xFD => Meaning::Start,
+        0xFE => Meaning::End,
+        0xFF => Meaning::Waits,
+        _ => Meaning::Byte(byte),
+    }
+}
+
+// An expansion byte after an FF.
+pub fn expansion_after(byte: u8) -> Meaning
+    ensures { λ r. ⌜ meaningOf r ≡ expansion .after byte ⌝ }
+{
+    match byte {
+        0xFD => Meaning::Start, // FD always starts
+        0x02 => Meaning::Byte(0xFD),
+        0x01 => Meaning::Byte(0xFE),
+        0x00 => Meaning::Byte(0xFF),
+        _ => Meaning::Wrong, // FE too
+    }
+}
+
+// Both codes in one form: the bytes from `first` to `escape` are hidden, each as `escape` and then `top` less the byte.
+struct Escapes {
+    first: u8,
+    escape: u8,
+    top: u8,
+}
+
+const DLE: Escapes = Escapes {
+    first: 0x10,
+    escape: 0x10,
+    top: 0x20,
+};
+
+const EXPANSION: Escapes = Escapes {
+    first: 0xFD,
+    escape: 0xFF,
+    top: 0xFF,
+};
+
+// Whether a code hides a byte.
+fn is_hidden(escapes: Escapes, byte: u8) -> bool
+    ensures { λ r. ⌜ r ≡ hides escapes byte ⌝ }
+{
+    escapes.first <= byte && byte <= escapes.escape
+}
+
+// How many wire bytes a byte takes.
+fn size_by(escapes: Escapes, byte: u8) -> usize
+    ensures { λ r. ⌜ r ≡ length (runOf escapes byte) ⌝ }
+{
+    if is_hidden(escapes, byte) { 2 } else { 1 }
+}
+
+// How many wire bytes a run of bytes takes.
+fn length_by(escapes: Escapes, bytes: &[u8]) -> usize
+    ensures { λ r. ⌜ r ≡ length (hideBy (runOf escapes) (now (bytes .entry))) ⌝ }
+{
+    let mut n: usize = 0;
+    let mut i = 0;
+    while i < bytes.len() {
+        n += size_by(escapes, bytes[i]);
+        i += 1;
+    }
+    n
+}
+
+// Whether so many bytes fit at a place of a memory.
+fn fits(at: usize, size: usize, memory: usize) -> bool
+    ensures { λ r. ⌜ r ≡ leb (at + size) memory ⌝ }
+{
+    at <= memory && size <= memory - at
+}
+
+// Stores a byte at a place, hidden, and tells how many wire bytes it took.
+fn put_byte(escapes: Escapes, byte: u8, out: &mut [u8], at: usize) -> usize
+    requires { ⌜ (escapes .escape ≤ escapes .top) × (at + length (runOf escapes byte) ≤ length (now out)) ⌝ }
+    ensures taken { λ r. ⌜ r ≡ length (runOf escapes byte) ⌝ }
+    ensures put { λ r. ⌜ now (out .exit) ≡ sets (now (out .entry)) at (runOf escapes byte) ⌝ }
+{
+    if is_hidden(escapes, byte) {
+        out[at] = escapes.escape;
+        out[at + 1] = escapes.top - byte;
+        2
+    } else {
+        out[at] = byte;
+        1
+    }
+}
+
+// Stores bytes from a place on, hidden, and tells how many wire bytes they took.
+fn put_bytes(escapes: Escapes, bytes: &[u8], out: &mut [u8], at: usize) -> usize
+    requires { ⌜ (escapes .escape ≤ escapes .top) × (at + length (hideBy (runOf escapes) (now bytes)) ≤ length (now out)) ⌝ }
+    ensures taken { λ r. ⌜ r ≡ length (hideBy (runOf escapes) (now (bytes .entry))) ⌝ }
+    ensures put { λ r. ⌜ now (out .exit) ≡ sets (now (out .entry)) at (hideBy (runOf escapes) (now (bytes .entry))) ⌝ }
+{
+    let mut n: usize = 0;
+    let mut i = 0;
+    while i < bytes.len() {
+        let more = put_byte(escapes, bytes[i], out, at + n);
+        n += more;
+        i += 1;
+    }
+    n
+}
+
+// Stores bytes from a place on, hidden, if they fit there.
+fn hide_by(escapes: Escapes, bytes: &[u8], out: &mut [u8], at: usize) -> Answer
+    requires { ⌜ escapes .escape ≤ escapes .top ⌝ }
+    ensures { λ r. ⌜ (outcomeOf r, now (out .exit)) ≡ storedAt (hideBy (runOf escapes) (now (bytes .entry))) (now (out .entry)) at ⌝ }
+{
+    let size = length_by(escapes, bytes);
+    if fits(at, size, out.len()) {
+        let n = put_bytes(escapes, bytes, out, at);
+        Answer::Done(n)
+    } else {
+        Answer::Refused(refusal::OUTPUT_SHORT)
+    }
+}
+
+// How many wire bytes DLE bytes take.
+pub fn dle_hidden_length(bytes: &[u8]) -> usize
+    ensures { λ r. ⌜ r ≡ length (hide dle (now (bytes .entry))) ⌝ }
+{
+    length_by(DLE, bytes)
+}
+
+// Stores DLE bytes hidden from a place on; where they do not fit there, stores nothing.
+pub fn dle_hide_into(bytes: &[u8], out: &mut [u8], at: usize) -> Answer
+    ensures { λ r. ⌜ (outcomeOf r, now (out .exit)) ≡ storedAt (hide dle (now (bytes .entry))) (now (out .entry)) at ⌝ }
+{
+    hide_by(DLE, bytes, out, at)
+}
+
+// How many wire bytes expansion bytes take.
+pub fn expansion_hidden_length(bytes: &[u8]) -> usize
+    ensures { λ r. ⌜ r ≡ length (hide expansion (now (bytes .entry))) ⌝ }
+{
+    length_by(EXPANSION, bytes)
+}
+
+// Stores expansion bytes hidden from a place on; where they do not fit there, stores nothing.
+pub fn expansion_hide_into(bytes: &[u8], out: &mut [u8], at: usize) -> Answer
+    ensures { λ r. ⌜ (outcomeOf r, now (out .exit)) ≡ storedAt (hide expansion (now (bytes .entry))) (now (out .entry)) at ⌝ }
+{
+    hide_by(EXPANSION, bytes, out, at)
+}
