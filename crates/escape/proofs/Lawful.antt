@@ -1,14 +1,14 @@
 -- Lawful codes: what is hidden reads back, and what reads back is what hiding makes.
 use Prim.Native.Nat.{ℕ, _*_, _≤_}
 use mathlib.Core.Path.{_≡_, refl, ap, sym, _∙_}
-use mathlib.Core.Bool.{true}
-use mathlib.Core.List.{List, [], _∷_, _++_, append-assoc}
+use mathlib.Core.Bool.{Bool, true, false, cond}
+use mathlib.Core.List.{List, [], _∷_, _++_, append-assoc, append-nil}
 use mathlib.Core.Option.{some, Option·map, Option·some-injective, Option·none-ne-some, map-eq-some-iff}
 use native.Mathlib.Omega.{arith}
 use lib.ListN.{length}
-use Rattle.escape.specs.Code.{Meaning, byte, waits, start, end, wrong, Code, hideBy, hide, read, unhideFrom, unhide}
+use Rattle.escape.specs.Code.{Meaning, byte, waits, start, end, wrong, Code, meaning, hideBy, hide, read, unhideFrom, unhide}
 use Rattle.escape.specs.Claims.{Coded, alone, pair, Lawful}
-use Rattle.escape.proofs.Hide.{short-by, long-by}
+use Rattle.escape.proofs.Hide.{hide-snoc, short-by, long-by}
 
 module _ (code : Code) (lawful : Lawful code) where
   -- a run that hides a byte reads as that byte, whatever follows
@@ -85,3 +85,13 @@ module _ (code : Code) (lawful : Lawful code) where
 
   pub hide-long : (bytes : List ℕ) → length bytes ≤ length (hide code bytes)
   hide-long = long-by (code .hideByte) (λ b. coded-size b (code .hideByte b) (lawful .coded b) .0)
+
+  -- a wire byte that completes a byte v, behind half an escape e or not: with what was held it hides one byte more
+  pub hide-more : (e : ℕ) → code .plain e ≡ waits → (waiting : Bool) (bytes : List ℕ) (w v : ℕ) → meaning code waiting w ≡ byte v
+      → (hide code bytes ++ cond waiting (e ∷ []) []) ++ (w ∷ []) ≡ hide code (bytes ++ (v ∷ []))
+  hide-more e p true bytes w v h =
+      append-assoc (hide code bytes) (e ∷ []) (w ∷ []) ∙ ap (λ (x : List ℕ). hide code bytes ++ x) (sym (lawful .after-byte e w v p h))
+      ∙ sym (hide-snoc (code .hideByte) bytes v)
+  hide-more e p false bytes w v h =
+      ap (λ (x : List ℕ). x ++ (w ∷ [])) (append-nil (hide code bytes)) ∙ ap (λ (x : List ℕ). hide code bytes ++ x) (sym (lawful .plain-byte w v h))
+      ∙ sym (hide-snoc (code .hideByte) bytes v)
