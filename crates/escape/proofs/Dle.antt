@@ -5,7 +5,8 @@ use mathlib.Core.List.{List, [], _∷_, _++_}
 use native.Mathlib.Omega.{arith}
 use borrow.Author.Tests.{ne-eqb}
 use Rattle.runs.proofs.Cases.{by-eqb}
-use Rattle.escape.specs.Code.{hideBy, hide, unhide}
+use Rattle.escape.specs.Code.{hide, unhide}
+use Rattle.runs.specs.Runs.{each}
 use Rattle.escape.specs.Dle.{dle}
 use Rattle.escape.specs.Claims.{Coded, alone, pair, Lawful, Paired}
 use Rattle.escape.proofs.OneEscape.{PlainOf, AfterOf, lawful-by}
@@ -20,7 +21,7 @@ dle-lawful = lawful-by dle 0x10
 
 -- hidden bytes that begin with a 10 begin with two
 begins-paired : (bytes rest : List ℕ) → 0x10 ∷ rest ≡ hide dle bytes → (behind : List ℕ) × (rest ≡ 0x10 ∷ behind)
-unfolding hideBy
+unfolding each
 begins-paired [] rest h = absurd (let z : _≡_ {A = ℕ} 0 1 = cc in omega arith)
 begins-paired (b ∷ bytes) rest h =
     by-eqb (λ run. 0x10 ∷ rest ≡ run ++ hide dle bytes → (behind : List ℕ) × (rest ≡ 0x10 ∷ behind)) b 0x10

@@ -10,7 +10,7 @@ use borrow.Author.Tests.{ne-eqb}
 use Rattle.runs.proofs.Cases.{by-eqb}
 use Rattle.escape.specs.Expansion.{hideByte, expansion}
 use Rattle.escape.specs.Claims.{Coded, alone, pair, Lawful, NoMarks, FrameBound}
-use Rattle.escape.proofs.Hide.{hide-every}
+use Rattle.runs.proofs.Each.{each-all}
 use Rattle.escape.proofs.OneEscape.{PlainOf, AfterOf, lawful-by}
 use Rattle.escape.proofs.Lawful.{hide-short}
 
@@ -50,7 +50,7 @@ byte-unmarked b i =
     coded x h = pair-unmarked 0xFF x (λ e. omega arith, λ e. omega arith) (λ e. omega arith, λ e. omega arith) i
 
 pub expansion-unmarked : NoMarks
-expansion-unmarked = hide-every (expansion .hideByte) Unmarked (λ e. omega arith, λ e. omega arith) byte-unmarked
+expansion-unmarked = each-all (expansion .hideByte) Unmarked (λ e. omega arith, λ e. omega arith) byte-unmarked
 
 pub expansion-bound : FrameBound
 expansion-bound bytes h = simp length-append (omega (arith, hide-short expansion expansion-lawful bytes))

@@ -6,9 +6,10 @@ use mathlib.Core.List.{List, [], _∷_, _++_, append-assoc, append-nil}
 use mathlib.Core.Option.{some, Option·map, Option·some-injective, Option·none-ne-some, map-eq-some-iff}
 use native.Mathlib.Omega.{arith}
 use lib.ListN.{length}
-use Rattle.escape.specs.Code.{Meaning, byte, waits, start, end, wrong, Code, meaning, hideBy, hide, read, unhideFrom, unhide}
+use Rattle.escape.specs.Code.{Meaning, byte, waits, start, end, wrong, Code, meaning, hide, read, unhideFrom, unhide}
+use Rattle.runs.specs.Runs.{each}
 use Rattle.escape.specs.Claims.{Coded, alone, pair, Lawful}
-use Rattle.escape.proofs.Hide.{hide-snoc, short-by, long-by}
+use Rattle.runs.proofs.Each.{each-snoc, each-short, each-long}
 
 module _ (code : Code) (lawful : Lawful code) where
   -- a run that hides a byte reads as that byte, whatever follows
@@ -21,14 +22,14 @@ module _ (code : Code) (lawful : Lawful code) where
   read-byte b rest = read-coded b (code .hideByte b) rest (lawful .coded b)
 
   pub unhide-hide : (bytes : List ℕ) → unhide code (hide code bytes) ≡ some bytes
-  unfolding hideBy unhideFrom
+  unfolding each unhideFrom
   unhide-hide [] = refl
   unhide-hide (b ∷ bytes) = read-byte b (hide code bytes) ∙ ap (Option·map (_∷_ b)) (unhide-hide bytes)
 
   -- what follows hidden bytes stands for bytes too, where the whole does
   pub unhide-rest : (front rest bytes : List ℕ) → unhide code (hide code front ++ rest) ≡ some bytes
       → (behind : List ℕ) × (unhide code rest ≡ some behind)
-  unfolding hideBy
+  unfolding each
   unhide-rest [] rest bytes h = (bytes, h)
   unhide-rest (b ∷ front) rest bytes h =
       let e = ap (unhide code) (append-assoc (code .hideByte b) (hide code front) rest) ∙ read-byte b (hide code front ++ rest) in
@@ -42,7 +43,7 @@ module _ (code : Code) (lawful : Lawful code) where
 
   module _ (wire : List ℕ) (back : Back wire) (bytes : List ℕ) where
     joined : (b : ℕ) (run : List ℕ) → code .hideByte b ≡ run → Option·map (_∷_ b) (unhide code wire) ≡ some bytes → run ++ wire ≡ hide code bytes
-    unfolding hideBy
+    unfolding each
     joined b run e h =
         let r = map-eq-some-iff (_∷_ b) (unhide code wire) .0 h in
         rw (← e, ← r .2) (ap (λ (x : List ℕ). code .hideByte b ++ x) (back .whole (r .0) (r .1)))
@@ -63,7 +64,7 @@ module _ (code : Code) (lawful : Lawful code) where
     back-after e w p wrong a h = absurd (Option·none-ne-some bytes h)
 
   reads-back : (wire : List ℕ) → Back wire
-  unfolding hideBy unhideFrom
+  unfolding each unhideFrom
   reads-back [] = record {
     whole = λ bytes h. ap (hide code) (Option·some-injective [] bytes h);
     half = λ e bytes p h. absurd (Option·none-ne-some bytes h);
@@ -81,17 +82,17 @@ module _ (code : Code) (lawful : Lawful code) where
   coded-size b _ (pair e x p a) = (omega arith, omega arith)
 
   pub hide-short : (bytes : List ℕ) → length (hide code bytes) ≤ 2 * length bytes
-  hide-short = short-by (code .hideByte) (λ b. coded-size b (code .hideByte b) (lawful .coded b) .1)
+  hide-short = each-short (code .hideByte) (λ b. coded-size b (code .hideByte b) (lawful .coded b) .1)
 
   pub hide-long : (bytes : List ℕ) → length bytes ≤ length (hide code bytes)
-  hide-long = long-by (code .hideByte) (λ b. coded-size b (code .hideByte b) (lawful .coded b) .0)
+  hide-long = each-long (code .hideByte) (λ b. coded-size b (code .hideByte b) (lawful .coded b) .0)
 
   -- a wire byte that completes a byte v, behind half an escape e or not: with what was held it hides one byte more
   pub hide-more : (e : ℕ) → code .plain e ≡ waits → (waiting : Bool) (bytes : List ℕ) (w v : ℕ) → meaning code waiting w ≡ byte v
       → (hide code bytes ++ cond waiting (e ∷ []) []) ++ (w ∷ []) ≡ hide code (bytes ++ (v ∷ []))
   hide-more e p true bytes w v h =
       append-assoc (hide code bytes) (e ∷ []) (w ∷ []) ∙ ap (λ (x : List ℕ). hide code bytes ++ x) (sym (lawful .after-byte e w v p h))
-      ∙ sym (hide-snoc (code .hideByte) bytes v)
+      ∙ sym (each-snoc (code .hideByte) bytes v)
   hide-more e p false bytes w v h =
       ap (λ (x : List ℕ). x ++ (w ∷ [])) (append-nil (hide code bytes)) ∙ ap (λ (x : List ℕ). hide code bytes ++ x) (sym (lawful .plain-byte w v h))
-      ∙ sym (hide-snoc (code .hideByte) bytes v)
+      ∙ sym (each-snoc (code .hideByte) bytes v)

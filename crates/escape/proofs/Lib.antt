@@ -1,6 +1,5 @@
--- `Hide` has the laws of hiding, whatever a byte is replaced by, and `Lawful` those of codes that read back. `OneEscape` shows that a code with one
+-- `Lawful` has the laws of codes that read back. `OneEscape` shows that a code with one
 -- escape byte is lawful; `Dle` and `Expansion` use it, and have their codes' own claims. `Form` shows both codes in the one form of the loops.
-pub mod Hide
 pub mod Lawful
 pub mod OneEscape
 pub mod Dle

@@ -3,6 +3,7 @@ use Prim.Native.Nat.{ℕ}
 use mathlib.Core.Bool.{Bool, true, false, cond}
 use mathlib.Core.List.{List, [], _∷_, _++_}
 use mathlib.Core.Option.{Option, none, some, Option·map}
+use Rattle.runs.specs.Runs.{each}
 use Rattle.escape.specs.declared.Meaning.{Meaning as Told}
 use Rattle.escape.specs.declared.Meaning.the-variants as told
 
@@ -32,14 +33,9 @@ pub record Code : Type 0 where
 abbrev pub meaning : Code → Bool → ℕ → Meaning
 meaning code waiting w = cond waiting (code .after w) (code .plain w)
 
--- each byte is replaced by its run
-unfoldable pub hideBy : (ℕ → List ℕ) → List ℕ → List ℕ
-hideBy run [] = []
-hideBy run (b ∷ bs) = run b ++ hideBy run bs
-
--- bytes as a code hides them
+-- bytes as a code hides them: each byte is replaced by its run
 abbrev pub hide : Code → List ℕ → List ℕ
-hide code bytes = hideBy (code .hideByte) bytes
+hide code bytes = each (code .hideByte) bytes
 
 -- a wire byte by its meaning, and then the rest, which is read with half an escape waiting (true) or not
 abbrev pub read : Meaning → (Bool → Option (List ℕ)) → Option (List ℕ)

@@ -5,7 +5,8 @@ ghost use lib.Dec.{leb};
 ghost use lib.ListN.{length};
 ghost use lib.Seq.{sets};
 ghost use Rattle.framing.specs.Answer.{outcomeOf, storedAt};
-ghost use Rattle.escape.specs.Code.{meaningOf, hide, hideBy};
+ghost use Rattle.escape.specs.Code.{meaningOf, hide};
+ghost use Rattle.runs.specs.Runs.{each};
 ghost use Rattle.escape.specs.Dle.{dle};
 ghost use Rattle.escape.specs.Expansion.{expansion};
 ghost use Rattle.escape.specs.Form.{hides, runOf};
@@ -103,7 +104,7 @@ fn size_by(escapes: Escapes, byte: u8) -> usize
 
 // How many wire bytes a run of bytes takes.
 fn length_by(escapes: Escapes, bytes: &[u8]) -> usize
-    ensures { λ r. ⌜ r ≡ length (hideBy (runOf escapes) (now (bytes .entry))) ⌝ }
+    ensures { λ r. ⌜ r ≡ length (each (runOf escapes) (now (bytes .entry))) ⌝ }
 {
     let mut n: usize = 0;
     let mut i = 0;
@@ -139,9 +140,9 @@ fn put_byte(escapes: Escapes, byte: u8, out: &mut [u8], at: usize) -> usize
 
 // Stores bytes from a place on, hidden, and tells how many wire bytes they took.
 fn put_bytes(escapes: Escapes, bytes: &[u8], out: &mut [u8], at: usize) -> usize
-    requires { ⌜ (escapes .escape ≤ escapes .top) × (at + length (hideBy (runOf escapes) (now bytes)) ≤ length (now out)) ⌝ }
-    ensures taken { λ r. ⌜ r ≡ length (hideBy (runOf escapes) (now (bytes .entry))) ⌝ }
-    ensures put { λ r. ⌜ now (out .exit) ≡ sets (now (out .entry)) at (hideBy (runOf escapes) (now (bytes .entry))) ⌝ }
+    requires { ⌜ (escapes .escape ≤ escapes .top) × (at + length (each (runOf escapes) (now bytes)) ≤ length (now out)) ⌝ }
+    ensures taken { λ r. ⌜ r ≡ length (each (runOf escapes) (now (bytes .entry))) ⌝ }
+    ensures put { λ r. ⌜ now (out .exit) ≡ sets (now (out .entry)) at (each (runOf escapes) (now (bytes .entry))) ⌝ }
 {
     let mut n: usize = 0;
     let mut i = 0;
@@ -156,7 +157,7 @@ fn put_bytes(escapes: Escapes, bytes: &[u8], out: &mut [u8], at: usize) -> usize
 // Stores bytes from a place on, hidden, if they fit there.
 fn hide_by(escapes: Escapes, bytes: &[u8], out: &mut [u8], at: usize) -> Answer
     requires { ⌜ escapes .escape ≤ escapes .top ⌝ }
-    ensures { λ r. ⌜ (outcomeOf r, now (out .exit)) ≡ storedAt (hideBy (runOf escapes) (now (bytes .entry))) (now (out .entry)) at ⌝ }
+    ensures { λ r. ⌜ (outcomeOf r, now (out .exit)) ≡ storedAt (each (runOf escapes) (now (bytes .entry))) (now (out .entry)) at ⌝ }
 {
     let size = length_by(escapes, bytes);
     if fits(at, size, out.len()) {

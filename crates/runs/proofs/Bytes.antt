@@ -20,10 +20,14 @@ bytes-left (b ∷ u) v h (suc i) = bytes-left u v (λ j. h (suc j)) i
 pub bytes-right : (u v : List ℕ) → Bytes (u ++ v) → Bytes v
 bytes-right u v h i = rw getD-append-add at (h (length u + i))
 
+-- what holds of every element of two lists holds of every element of one after the other
+pub every-append : (P : ℕ → Type 0) (u v : List ℕ) → ((i : ℕ) → P (getD u i 0)) → ((i : ℕ) → P (getD v i 0)) → (i : ℕ) → P (getD (u ++ v) i 0)
+every-append P [] v hu hv i = hv i
+every-append P (b ∷ u) v hu hv zero = hu 0
+every-append P (b ∷ u) v hu hv (suc i) = every-append P u v (λ j. hu (suc j)) hv i
+
 pub bytes-append : (u v : List ℕ) → Bytes u → Bytes v → Bytes (u ++ v)
-bytes-append [] v hu hv i = hv i
-bytes-append (b ∷ u) v hu hv zero = hu 0
-bytes-append (b ∷ u) v hu hv (suc i) = bytes-append u v (λ j. hu (suc j)) hv i
+bytes-append u v hu hv = every-append (λ b. b < 256) u v hu hv
 
 pub bytes-take : (n : ℕ) (u : List ℕ) → Bytes u → Bytes (take n u)
 bytes-take zero u h i = lit< tt

@@ -1,7 +1,8 @@
--- `Cases` splits on a test, `Bytes` has lists of bytes, `Begins` runs that begin others, `Run` what a loop that stores a run keeps, `Number`
--- numbers low byte first.
+-- `Cases` splits on a test, `Bytes` has lists of bytes, `Begins` runs that begin others, `Run` what a loop that stores a run keeps, `Each`
+-- elements shown one after the other, `Number` numbers low byte first.
 pub mod Cases
 pub mod Bytes
 pub mod Begins
 pub mod Run
+pub mod Each
 pub mod Number

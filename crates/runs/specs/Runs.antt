@@ -2,7 +2,7 @@
 -- library's `sets memory place run`.
 use Prim.Native.Nat.{ℕ, _≤_, _<_}
 use mathlib.Core.Path.{_≡_}
-use mathlib.Core.List.{List, _++_}
+use mathlib.Core.List.{List, [], _∷_, _++_}
 use lib.ListN.{length, drop, getD, getElem?}
 
 -- every element is a byte
@@ -16,3 +16,8 @@ over run memory = run ++ drop (length run) memory
 -- xs begins ys: it is at most as long, and the two are equal at each place that it has
 abbrev pub Begins : {A : Type 0} → List A → List A → Type 0
 Begins xs ys = (length xs ≤ length ys) × ((i : ℕ) → i < length xs → getElem? xs i ≡ getElem? ys i)
+
+-- the elements of a list one after the other, each as f shows it
+unfoldable pub each : (ℕ → List ℕ) → List ℕ → List ℕ
+each f [] = []
+each f (b ∷ bs) = f b ++ each f bs

@@ -5,7 +5,7 @@ use Prim.Native.Nat.{_+_, _≤_, _<_}
 use mathlib.Core.Path.{sym, _∙_}
 use lib.ListN.{length}
 use Rattle.framing.specs.Answer.{done}
-use Rattle.escape.specs.Code.{hideBy}
+use Rattle.runs.specs.Runs.{each}
 use Rattle.escape.specs.Form.{runOf}
 use Rattle.framing.proofs.Stored.{stored-done, stored-refused}
 use Rattle.escape.proofs.hide_by.Statement.{statement}
@@ -32,7 +32,7 @@ returns c =
     let p = c .before .before .put-bytes .ensures in
     let l = c .before .before .before .before .before .before in
     let a = l .before .before .before .args in
-    let run = hideBy (runOf (a .escapes)) (a .bytes .now) in
+    let run = each (runOf (a .escapes)) (a .bytes .now) in
     let t = c .before .before .before .before in
     let e = leb-true (a .at + l .length-by .result) (length (a .out .now)) (sym (t .before .fits2 .ensures) ∙ t .if1 .taken) in
     let fit : a .at + length run ≤ length (a .out .now) = omega (arith, l .length-by .ensures) in
@@ -42,7 +42,7 @@ returns-2 : tie.Need-returns-2
 returns-2 c =
     let l = c .before .before in
     let a = l .before .before .before .args in
-    let run = hideBy (runOf (a .escapes)) (a .bytes .now) in
+    let run = each (runOf (a .escapes)) (a .bytes .now) in
     let e = leb-false (a .at + l .length-by .result) (length (a .out .now)) (sym (c .before .fits2 .ensures) ∙ c .if1 .left) in
     let short : length (a .out .now) < a .at + length run = omega (arith, l .length-by .ensures) in
     sym (stored-refused run (a .out .now) (a .at) short)

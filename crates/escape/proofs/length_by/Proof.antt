@@ -3,9 +3,9 @@ use native.Mathlib.Omega.{arith}
 use Prim.Native.Nat.{_+_, _-_, _≤_}
 use mathlib.Core.Path.{_≡_, ap}
 use lib.ListN.{length, drop, drop-of-length-le}
-use Rattle.escape.specs.Code.{hideBy}
+use Rattle.runs.specs.Runs.{each}
 use Rattle.escape.specs.Form.{runOf}
-use Rattle.escape.proofs.Hide.{size-next, short-by}
+use Rattle.runs.proofs.Each.{each-length, each-short}
 use Rattle.escape.proofs.Form.{run-short}
 use Rattle.escape.proofs.length_by.Statement.{statement}
 use Rattle.escape.proofs.length_by.Tie as tie
@@ -13,7 +13,7 @@ use Rattle.escape.proofs.length_by.Tie as tie
 -- n bytes, and what the bytes from i on take, are the whole
 abbrev Inv-loop : tie.InvT-loop
 Inv-loop escapes bytes n₀ i₀ n i =
-    (i ≤ length bytes) × (n + length (hideBy (runOf escapes) (drop i bytes)) ≡ length (hideBy (runOf escapes) bytes))
+    (i ≤ length bytes) × (n + length (each (runOf escapes) (drop i bytes)) ≡ length (each (runOf escapes) bytes))
 
 abbrev μ-loop : tie.MeasureT-loop
 μ-loop escapes bytes n₀ i₀ n i = length bytes - i
@@ -34,8 +34,8 @@ add-n c =
     let run = runOf (a .escapes) in
     let bytes = a .bytes .now in
     let i = l .loop .i in
-    let e = size-next run bytes i (c .before .before .loop-test .taken) in
-    omega (arith, e, c .size-by .ensures, l .loop .inv .1, short-by run (run-short (a .escapes)) bytes, l .before .before .good .1 .0 .1)
+    let e = each-length run bytes i (c .before .before .loop-test .taken) in
+    omega (arith, e, c .size-by .ensures, l .loop .inv .1, each-short run (run-short (a .escapes)) bytes, l .before .before .good .1 .0 .1)
 
 add-i : tie.Need-add-i Inv-loop μ-loop
 add-i c = omega arith
@@ -49,14 +49,14 @@ loop-again c =
     let run = runOf (l .before .before .args .escapes) in
     let bytes = l .before .before .args .bytes .now in
     let i = l .loop .i in
-    let e = size-next run bytes i (c .before .before .loop-test .taken) in
+    let e = each-length run bytes i (c .before .before .loop-test .taken) in
     (omega arith, omega (arith, e, c .size-by .ensures, l .loop .inv .1))
 
 returns : tie.Need-returns Inv-loop μ-loop
-unfolding hideBy
+unfolding each
 returns c =
     let a = c .before .before .before .args in
-    let e = ap (λ l. length (hideBy (runOf (a .escapes)) l)) (drop-of-length-le (a .bytes .now) (c .loop-test .left)) in
+    let e = ap (λ l. length (each (runOf (a .escapes)) l)) (drop-of-length-le (a .bytes .now) (c .loop-test .left)) in
     omega (arith, e, c .before .loop .inv .1)
 
 pub length-by-spec : {M : Type 1} → statement M

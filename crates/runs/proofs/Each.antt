@@ -1,0 +1,44 @@
+-- Elements one after the other, each as f shows it.
+use Prim.Native.Nat.{ℕ, _+_, _*_, _≤_, _<_}
+use mathlib.Core.Path.{_≡_, refl, ap, sym, _∙_}
+use mathlib.Core.List.{List, [], _∷_, _++_, append-assoc, append-nil}
+use native.Mathlib.Omega.{arith}
+use lib.ListN.{length, drop, getD, length-append}
+use Rattle.runs.proofs.Bytes.{drop-next, every-append}
+use Rattle.runs.specs.Runs.{each}
+
+module _ (f : ℕ → List ℕ) where
+  pub each-append : (xs ys : List ℕ) → each f (xs ++ ys) ≡ each f xs ++ each f ys
+  unfolding each
+  each-append [] ys = refl
+  each-append (x ∷ xs) ys = rw (each-append xs ys) (sym (append-assoc (f x) (each f xs) (each f ys)))
+
+  pub each-snoc : (bytes : List ℕ) (b : ℕ) → each f (bytes ++ (b ∷ [])) ≡ each f bytes ++ f b
+  unfolding each
+  each-snoc bytes b = each-append bytes (b ∷ []) ∙ ap (λ (x : List ℕ). each f bytes ++ x) (append-nil (f b))
+
+  -- what is left at index i, as a loop that counts up by one meets it
+  pub each-next : (l : List ℕ) (i : ℕ) → i < length l → each f (drop i l) ≡ f (getD l i 0) ++ each f (drop (i + 1) l)
+  unfolding each
+  each-next l i h = ap (each f) (drop-next l i h)
+
+  pub each-length : (l : List ℕ) (i : ℕ) → i < length l
+      → length (each f (drop i l)) ≡ length (f (getD l i 0)) + length (each f (drop (i + 1) l))
+  each-length l i h = ap length (each-next l i h) ∙ length-append (f (getD l i 0)) (each f (drop (i + 1) l))
+
+  -- what holds of every byte that f gives holds of all
+  pub each-all : (P : ℕ → Type 0) → P 0 → ((b i : ℕ) → P (getD (f b) i 0)) → (bytes : List ℕ) (i : ℕ) → P (getD (each f bytes) i 0)
+  unfolding each
+  each-all P z h [] i = z
+  each-all P z h (b ∷ bytes) i = every-append P (f b) (each f bytes) (h b) (each-all P z h bytes) i
+
+  -- at most twice as many, where f gives one byte or two
+  pub each-short : ((b : ℕ) → length (f b) ≤ 2) → (bytes : List ℕ) → length (each f bytes) ≤ 2 * length bytes
+  unfolding each
+  each-short two [] = omega arith
+  each-short two (b ∷ bytes) = simp length-append (omega (arith, two b, each-short two bytes))
+
+  pub each-long : ((b : ℕ) → 1 ≤ length (f b)) → (bytes : List ℕ) → length bytes ≤ length (each f bytes)
+  unfolding each
+  each-long one [] = omega arith
+  each-long one (b ∷ bytes) = simp length-append (omega (arith, one b, each-long one bytes))
