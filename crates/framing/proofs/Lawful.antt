@@ -1,9 +1,9 @@
 -- What a link has to show of each byte, once; all claims on its streams and its calls follow.
-use Prim.Native.Nat.{ℕ, _≤_, _<_}
+use Prim.Native.Nat.{ℕ, suc, _≤_, _<_}
 use mathlib.Core.Path.{_≡_, refl, ap, sym, _∙_, subst}
 use mathlib.Core.Bool.{true}
 use mathlib.Core.List.{List, [], _∷_, _++_, append-assoc}
-use mathlib.Core.Option.{Option, none, some}
+use mathlib.Core.Option.{Option, none, some, Option·none-ne-some}
 use native.Mathlib.Nat.{zero-add}
 use native.Mathlib.Omega.{arith}
 use lib.ListN.{length, take, length-append, length-drop}
@@ -13,11 +13,11 @@ use Rattle.runs.specs.Runs.{Bytes, over}
 use Rattle.runs.proofs.Bytes.{bytes-append}
 use Rattle.runs.proofs.Run.{part-sets}
 use Rattle.framing.specs.Answer.{Outcome, done}
-use Rattle.framing.specs.Receiver.{Fed, feed, events, last, drive, join}
+use Rattle.framing.specs.Receiver.{Fed, stop, feed, events, last, drive, join}
 use Rattle.framing.specs.Segment.{Segment, noise, refused, accepted, Event, message, refusal, Config, step, eventOf, noiseAfter, wires}
 use Rattle.framing.specs.Writer.{writes}
 use Rattle.framing.specs.Link.{Link, Lent, stepOn, told, heardIn, called}
-use Rattle.framing.specs.Claims.{openAt, ReadsBack, Canonical, CutAnywhere, Accounted, Demand3}
+use Rattle.framing.specs.Claims.{segments, openAt, ReadsBack, Canonical, CutAnywhere, Accounted, Demand3}
 use Rattle.framing.proofs.Stored.{stored-done}
 use Rattle.framing.proofs.Cutting.{Follows, cutting, feed-follows}
 use Rattle.framing.proofs.Segments.{wireOpt, Accepts, AllAccept, accept-at, wires-append, partition, all-accepted, phase-last, heard-events, noise-last}
@@ -40,10 +40,11 @@ pub record Lawful (L : Link) : Type 1 where
   pub held-first : L .held (L .hunting) ≡ []
   pub gathered-first : L .gathered (L .hunting) ≡ []
   pub fresh-first : L .fresh ≡ stateOf (L .hunting) 0
-  -- a byte: nothing is lost, the next phase is good, an accepted message may be sent
+  -- a byte: nothing is lost, the next phase is good; an accepted message may be sent, and its frame is what was held
   pub conserves : (p : L .Phase) (b : ℕ) → b < 256 → Good p → wireOpt (L .frame) (L .cut p b .1) ++ L .held (L .cut p b .0) ≡ L .held p ++ (b ∷ [])
   pub good-next : (p : L .Phase) (b : ℕ) → b < 256 → Good p → Good (L .cut p b .0)
   pub accepts-ok : (p : L .Phase) (b : ℕ) → b < 256 → Good p → Accepts (λ m. L .ok m ≡ true) (L .cut p b .1)
+  pub accepts-frame : (p : L .Phase) (b : ℕ) → b < 256 → Good p → Accepts (λ m. L .frame m ≡ L .held p ++ (b ∷ [])) (L .cut p b .1)
   -- the state after it is that of the next phase, also out of a state in plain hunting whatever it holds
   pub state-next : (p : L .Phase) (n b : ℕ) → b < 256 → Good p
       → L .stateAfter (stateOf p n) (L .cut p b .0) (L .cut p b .1) ≡ stateOf (L .cut p b .0) (noiseAfter (L .cut p b .1) n)
@@ -72,11 +73,13 @@ module _ (L : Link) (laws : Lawful L) where
       partition (L .frame) (L .held) (L .cut) (laws .Good) (laws .good-next) (laws .conserves) (L .hunting) bs y (laws .good-first)
       ∙ ap (λ (w : List ℕ). w ++ bs) (laws .held-first)
 
+  pub all-sendable : (bs : List ℕ) → Bytes bs → AllAccept (λ m. L .ok m ≡ true) (segments L bs)
+  all-sendable bs y =
+      all-accepted (L .frame) (L .held) (L .cut) (laws .Good) (laws .good-next) (λ m. L .ok m ≡ true) (laws .accepts-ok) (L .hunting) bs y (laws .good-first)
+
   pub canonical : Canonical L
   canonical bs y before after m e = (
-    accept-at (λ m. L .ok m ≡ true) before after m
-        (subst (λ (ss : List (Segment (L .Message))). AllAccept (λ m. L .ok m ≡ true) ss) e
-        (all-accepted (L .frame) (L .held) (L .cut) (laws .Good) (laws .good-next) (λ m. L .ok m ≡ true) (laws .accepts-ok) (L .hunting) bs y (laws .good-first))),
+    accept-at (λ m. L .ok m ≡ true) before after m (subst (λ (ss : List (Segment (L .Message))). AllAccept (λ m. L .ok m ≡ true) ss) e (all-sendable bs y)),
     sym (accounted bs y)
         ∙ ap (λ (ss : List (Segment (L .Message))). wires (L .frame) ss ++ openAt L bs) e
         ∙ ap (λ (w : List ℕ). w ++ openAt L bs)
@@ -144,6 +147,52 @@ module _ (L : Link) (laws : Lawful L) where
     follows : (c : Lent L) (a : Config (L .Phase)) (bs : List ℕ) → Bytes bs → Stands c a → Follows Stands (called L c bs) (feed (step (L .cut)) a bs)
     follows c a bs y r =
         rw (r .known, le-leb (L .size) (length (c .1)) (r .room)) (feed-follows (stepOn L) view (step (L .cut)) Stands (λ _. refl) view-some alike c a bs y r)
+
+  -- the last byte of an accepted frame leaves nothing open
+  nothing-left : (w v h : List ℕ) → w ++ h ≡ v → w ≡ v → h ≡ []
+  nothing-left w v [] e f = refl
+  nothing-left w v (b ∷ h) e f = absurd (omega (arith, simp length-append at (ap length e), ap length f))
+
+  -- so a call that gives a message leaves nothing open
+  closes : (p : L .Phase) (n : ℕ) (bs : List ℕ) (m : L .Message) → Bytes bs → laws .Good p → feed (step (L .cut)) (at p n) bs .event ≡ some (message m)
+      → L .held (feed (step (L .cut)) (at p n) bs .after .phase) ≡ []
+  closes p n [] m y g e = absurd (Option·none-ne-some (message m) e)
+  closes p n (b ∷ bs) m y g e =
+      go (L .cut p b .1) (laws .accepts-frame p b (y 0) g) (laws .conserves p b (y 0) g)
+      (closes (L .cut p b .0) (noiseAfter (L .cut p b .1) n) bs m (λ i. y (suc i)) (laws .good-next p b (y 0) g)) e
+    where
+      next : Config (L .Phase)
+      next = at (L .cut p b .0) (noiseAfter (L .cut p b .1) n)
+
+      rest : Fed (Event (L .Message)) (Config (L .Phase))
+      rest = feed (step (L .cut)) next bs
+
+      go : (o : Option (Segment (L .Message))) → Accepts (λ m. L .frame m ≡ L .held p ++ (b ∷ [])) o
+          → wireOpt (L .frame) o ++ L .held (L .cut p b .0) ≡ L .held p ++ (b ∷ []) → (rest .event ≡ some (message m) → L .held (rest .after .phase) ≡ [])
+          → stop next (eventOf o) rest .event ≡ some (message m) → L .held (stop next (eventOf o) rest .after .phase) ≡ []
+      go none a c ih e = ih e
+      go (some (noise bs)) a c ih e = ih e
+      go (some (refused k bs)) a c ih e = absurd (let z : _≡_ {A = ℕ} 0 1 = cc in omega arith)
+      go (some (accepted k)) a c ih e = nothing-left (L .frame k) (L .held p ++ (b ∷ [])) (L .held (L .cut p b .0)) c a
+
+  pub last-closed : (bs : List ℕ) (m : L .Message) → Bytes bs → feed (step (L .cut)) (at (L .hunting) 0) bs .event ≡ some (message m)
+      → L .held (feed (step (L .cut)) (at (L .hunting) 0) bs .after .phase) ≡ []
+  last-closed bs m y e = closes (L .hunting) 0 bs m y (laws .good-first) e
+
+  -- a call with a fresh state is a call by the rules
+  pub fresh-follows : (store bs : List ℕ) → Bytes bs → L .size ≤ length store
+      → (called L (L .fresh, store) bs .event ≡ feed (step (L .cut)) (at (L .hunting) 0) bs .event)
+      × (called L (L .fresh, store) bs .used ≡ feed (step (L .cut)) (at (L .hunting) 0) bs .used)
+      × (L .noise (called L (L .fresh, store) bs .after .0) ≡ feed (step (L .cut)) (at (L .hunting) 0) bs .after .noise)
+  fresh-follows store bs y room = (f .event, f .used, f .after .noise)
+    where
+      Any : L .State → Config (L .Phase) → Type 0
+      Any s a = Unit
+
+      f : Follows (Stands Any (λ _ _. tt)) (called L (L .fresh, store) bs) (feed (step (L .cut)) (at (L .hunting) 0) bs)
+      f =
+          follows Any (λ _ _. tt) (L .fresh, store) (at (L .hunting) 0) bs y
+          (stands-of Any (λ _ _. tt) (L .hunting) 0 (L .fresh) store (laws .fresh-first) (laws .good-first) (rw (laws .gathered-first)) room)
 
   pub cut-anywhere : CutAnywhere L
   cut-anywhere pieces store y room =

@@ -6,5 +6,6 @@ pub mod Cutting
 pub mod Segments
 pub mod Calls
 pub mod Lawful
+pub mod Whole
 pub mod States
 pub mod Loop

@@ -6,3 +6,4 @@ pub mod State
 pub mod Writer
 pub mod Link
 pub mod Claims
+pub mod Whole

@@ -1,0 +1,66 @@
+-- The phases that a receiver reaches, and what their gathered bytes are.
+use Prim.Native.Nat.{ℕ, suc, _+_, _/_, _%_, _≤_}
+use mathlib.Core.Path.{_≡_, refl, ap, sym, _∙_}
+use mathlib.Core.Bool.{true}
+use mathlib.Core.List.{List, [], _∷_, _++_}
+use native.Mathlib.Omega.{arith}
+use lib.ListN.{length, getD, take, take-append-drop, drop-of-length-le}
+use lib.Seq.{drop-cons}
+use Rattle.runs.specs.Runs.{Bytes}
+use Rattle.mdu.specs.Frame.{lengthOk, headerSum, header}
+use Rattle.mdu.specs.Rules.{Phase, hunting, head, tail, stated}
+
+-- a header that was entered, and what follows it
+pub record Entered (k : ℕ) (g : List ℕ) : Type 0 where
+  pub address : ℕ
+  pub rest : List ℕ
+  pub whole : g ≡ header k address ++ rest
+  pub low : 1 ≤ address
+  pub allowed : lengthOk k ≡ true
+  pub bytes : Bytes rest
+  pub short : length rest ≤ k + 1
+
+abbrev pub Good : Phase → Type 0
+Good hunting = Unit
+Good (head g) = Bytes g × (1 ≤ length g) × (length g ≤ 5) × (getD g 0 0 ≡ 0xE3)
+Good (tail k g) = Entered k g
+
+six : (g : List ℕ) → length g ≡ 6 → g ≡ getD g 0 0 ∷ getD g 1 0 ∷ getD g 2 0 ∷ getD g 3 0 ∷ getD g 4 0 ∷ getD g 5 0 ∷ []
+six [] h = absurd (omega arith)
+six (a ∷ []) h = absurd (omega arith)
+six (a ∷ b ∷ []) h = absurd (omega arith)
+six (a ∷ b ∷ c ∷ []) h = absurd (omega arith)
+six (a ∷ b ∷ c ∷ d ∷ []) h = absurd (omega arith)
+six (a ∷ b ∷ c ∷ d ∷ e ∷ []) h = absurd (omega arith)
+six (a ∷ b ∷ c ∷ d ∷ e ∷ f ∷ []) h = refl
+six (a ∷ b ∷ c ∷ d ∷ e ∷ f ∷ x ∷ g) h = absurd (omega arith)
+
+-- the six bytes of a header that passes are the header of its length and address
+pub entered : (g : List ℕ) → length g ≡ 6 → Bytes g → getD g 0 0 ≡ 0xE3 → getD g 1 0 ≡ 1 → (getD g 4 0 ≡ 0 → ⊥) → getD g 5 0 ≡ headerSum g
+    → lengthOk (stated g) ≡ true → Entered (stated g) g
+entered g l y e v a s k =
+    record {
+      address = getD g 4 0;
+      rest = [];
+      whole = six g l ∙ rw (s, e, v) same;
+      low = omega arith;
+      allowed = k;
+      bytes = λ i. omega arith;
+      short = omega arith;
+    }
+  where
+    same : 0xE3 ∷ 1 ∷ getD g 2 0 ∷ getD g 3 0 ∷ getD g 4 0 ∷ (0xE3 + 1 + getD g 2 0 + getD g 3 0 + getD g 4 0) % 256 ∷ []
+        ≡ header (stated g) (getD g 4 0) ++ []
+    same =
+        let h : stated g / 256 ≡ getD g 2 0 = omega (arith, y 3) in
+        let m : stated g % 256 ≡ getD g 3 0 = omega (arith, y 3) in
+        rw (h, m)
+
+-- the last two of k + 2 bytes
+pub two : (e : List ℕ) (k : ℕ) → length e ≡ k + 2 → e ≡ take k e ++ (getD e k 0 ∷ getD e (suc k) 0 ∷ [])
+two e k l =
+    sym (take-append-drop k e)
+    ∙ ap (λ (x : List ℕ). take k e ++ x)
+    (drop-cons e k 0 (omega arith)
+    ∙ ap (λ (x : List ℕ). getD e k 0 ∷ x)
+    (drop-cons e (suc k) 0 (omega arith) ∙ ap (λ (x : List ℕ). getD e (suc k) 0 ∷ x) (drop-of-length-le e {i = suc (suc k)} (omega arith))))

@@ -1,0 +1,12 @@
+-- `Entered`, `Cut`, `Readback` and `Known` have the laws of the rules, `Lawful` gathers them, `Theorems` has what is claimed. `Store`, `Steps`,
+-- `Body` and `Written` are for the code.
+pub mod Entered
+pub mod Cut
+pub mod Readback
+pub mod Known
+pub mod Lawful
+pub mod Theorems
+pub mod Store
+pub mod Steps
+pub mod Body
+pub mod Written

@@ -1,0 +1,58 @@
+use native.Mathlib.Omega.{arith}
+use mathlib.Core.Path.{refl, sym, subst}
+use Rattle.mdu.specs.Steps.{Answers}
+use Rattle.mdu.proofs.Store.{more-count, more-over, head-enters, head-goes-on}
+use Rattle.mdu.proofs.Steps.{answers-more}
+use borrow.Author.Needs.{needs}
+use Rattle.mdu.proofs.receiver.head_byte.Statement.{statement}
+use Rattle.mdu.proofs.receiver.head_byte.Tie as tie
+
+slice-write-store : tie.Need-slice-write-store
+slice-write-store c = search needs
+
+enter-body-requires : tie.Need-enter-body-requires
+enter-body-requires c κs = search needs
+
+add-go-on : tie.Need-add-go-on
+add-go-on c = search needs
+
+go-on-requires : tie.Need-go-on-requires
+go-on-requires c κs = search needs
+
+same-length : tie.Need-same-length
+same-length c = search needs
+
+returns : tie.Need-returns
+returns c =
+    let a = c .before .before .before .before .before .args in
+    let n = a .state .base .count in (
+      subst (λ x. Answers (a .state) x (c .enter-body .result)) (sym (head-enters (a .store .now) n (a .byte) (omega arith) (c .before .before .if1 .taken)))
+          (c .enter-body .ensures),
+      more-over (a .store .now) n (a .byte) (omega arith),
+    )
+
+same-length-2 : tie.Need-same-length-2
+same-length-2 c = search needs
+
+returns-2 : tie.Need-returns-2
+returns-2 c =
+    let a = c .before .before .before .before .args in
+    let n = a .state .base .count in
+    let g = more-count (a .store .now) n (a .byte) (omega arith) in (
+      answers-more (a .state) _ (c .go-on .result) _ (head-goes-on (a .store .now) n (a .byte) (omega arith) (c .before .if1 .left)) (c .before .before .before .before .pre .0 .mode) refl
+          (rw g (c .go-on .ensures)),
+      more-over (a .store .now) n (a .byte) (omega arith),
+    )
+
+pub head-byte-spec : {M : Type 1} → statement M
+head-byte-spec =
+    tie.close
+    (tie.spec
+    slice-write-store
+    enter-body-requires
+    add-go-on
+    go-on-requires
+    same-length
+    returns
+    same-length-2
+    returns-2)

@@ -1,0 +1,40 @@
+use native.Mathlib.Omega.{arith}
+use Prim.Native.Nat.{_+_}
+use lib.ListN.{take, set}
+use Rattle.mdu.proofs.Store.{more-over, tail-finishes}
+use Rattle.mdu.proofs.Steps.{answers-finish}
+use borrow.Author.Needs.{needs}
+use Rattle.mdu.proofs.receiver.last_byte.Statement.{statement}
+use Rattle.mdu.proofs.receiver.last_byte.Tie as tie
+
+-- src/receiver.rt:181:5
+slice-write-store : tie.Need-slice-write-store
+slice-write-store c = search needs
+
+-- src/receiver.rt:182:9
+finish-frame-requires : tie.Need-finish-frame-requires
+finish-frame-requires c κs = search needs
+
+-- src/receiver.rt:183:5
+end-requires : tie.Need-end-requires
+end-requires c κs = search needs
+
+-- src/receiver.rt:174:1
+same-length : tie.Need-same-length
+same-length c = search needs
+
+-- src/receiver.rt:174:1
+returns : tie.Need-returns
+returns c =
+    let s = c .before .before .before .before .before in
+    let a = s .args in
+    let n = a .state .base .count in
+    let k = a .state .length in (
+      answers-finish (a .state) _ (c .end .result) k (take (8 + k) (set (a .store .now) n (a .byte))) _
+          (tail-finishes (a .store .now) n (a .byte) (omega arith) k (s .pre .2)) (c .before .finish-frame .ensures) (c .end .ensures),
+      more-over (a .store .now) n (a .byte) (omega arith),
+    )
+
+pub last-byte-spec : {M : Type 1} → statement M
+last-byte-spec =
+    tie.close (tie.spec slice-write-store finish-frame-requires end-requires same-length returns)

@@ -1,0 +1,101 @@
+use native.Mathlib.Omega.{arith}
+use Prim.Native.Nat.{ℕ, _+_, _-_, _^_, _<_}
+use mathlib.Core.Path.{_≡_, ap, _∙_}
+use lib.ListN.{take, drop}
+use lib.Seq.{sets}
+use Rattle.mdu.proofs.Body.{leads-body}
+use borrow.Author.Needs.{needs}
+use Rattle.mdu.proofs.receiver.pass_body.Statement.{statement}
+use Rattle.mdu.proofs.receiver.pass_body.Tie as tie
+
+-- src/receiver.rt:232:19
+sub-least : tie.Need-sub-least
+sub-least c = search needs
+
+-- src/receiver.rt:232:39
+add-least : tie.Need-add-least
+add-least c = search needs
+
+-- src/receiver.rt:232:39
+sub-least-2 : tie.Need-sub-least-2
+sub-least-2 c = search needs
+
+-- src/receiver.rt:232:9
+least-requires : tie.Need-least-requires
+least-requires c κs = search needs
+
+-- src/receiver.rt:233:15
+add-end : tie.Need-add-end
+add-end c = search needs
+
+-- src/receiver.rt:234:34
+sub-put-bytes : tie.Need-sub-put-bytes
+sub-put-bytes c = search needs
+
+-- src/receiver.rt:234:34
+part-put-bytes-start : tie.Need-part-put-bytes-start
+part-put-bytes-start c = search needs
+
+-- src/receiver.rt:234:34
+part-put-bytes-end : tie.Need-part-put-bytes-end
+part-put-bytes-end c = search needs
+
+-- src/receiver.rt:234:5
+put-bytes-requires : tie.Need-put-bytes-requires
+put-bytes-requires c κs = search needs
+
+-- src/receiver.rt:235:54
+cast-wrapping-add-u32 : tie.Need-cast-wrapping-add-u32
+cast-wrapping-add-u32 c = search needs
+
+-- src/receiver.rt:235:9
+wrapping-add-u32-requires : tie.Need-wrapping-add-u32-requires
+wrapping-add-u32-requires c κs = search needs
+
+-- src/receiver.rt:238:44
+add-reopen : tie.Need-add-reopen
+add-reopen c = search needs
+
+-- src/receiver.rt:238:19
+reopen-requires : tie.Need-reopen-requires
+reopen-requires c κs = search needs
+
+-- src/receiver.rt:226:1
+same-length : tie.Need-same-length
+same-length c = search needs
+
+-- src/receiver.rt:226:1
+returns : tie.Need-returns
+returns c =
+    let p = c .before .before .before .before in
+    let l = p .before .before .before in
+    let s = l .before .before .before .before .before in
+    let a = s .args in
+    let n = l .least .result in
+    let at = a .state .base .count in
+    let long : a .from + n - a .from ≡ n = omega arith in
+    let fits : a .state .base .«open» < 2 ^ 32 = omega (arith, l .before .struct-known .given) in
+    leads-body (a .piece .now) (a .store .now) (p .put-bytes .last .0) (a .state) (record { base = c .reopen .result; length = a .state .length }) (a .from) n
+    (s .pre .0 .mode) (s .pre .1) (s .pre .0 .room) fits (omega (arith, l .least .ensures .0)) (omega (arith, l .least .ensures .1, s .pre .1))
+    (λ h. omega (arith, l .least .ensures .2 (omega arith))) (simp (c .reopen .ensures, c .before .wrapping-add-u32 .ensures))
+    (p .put-bytes .ensures ∙ ap (λ (k : ℕ). sets (a .store .now) at (take k (drop (a .from) (a .piece .now)))) long)
+
+pub pass-body-spec : {M : Type 1} → statement M
+pass-body-spec =
+    tie.close
+    (tie.spec
+    sub-least
+    add-least
+    sub-least-2
+    least-requires
+    add-end
+    sub-put-bytes
+    part-put-bytes-start
+    part-put-bytes-end
+    put-bytes-requires
+    cast-wrapping-add-u32
+    wrapping-add-u32-requires
+    add-reopen
+    reopen-requires
+    same-length
+    returns)

@@ -1,0 +1,129 @@
+use Rattle.framing.specs.Link.{Lent}
+use borrow.Author.Needs.{needs}
+use native.Mathlib.Omega.{arith}
+use Prim.Native.Nat.{_≤_, _-_}
+use mathlib.Core.Path.{_≡_, refl, ap, sym, _∙_}
+use mathlib.Core.Bool.{true}
+use lib.ListN.{length, getD}
+use Rattle.framing.proofs.Loop.{Passed, passed-none, passed-more, passed-event, passed-all}
+use Rattle.mdu.specs.Rules.{size}
+use Rattle.mdu.specs.Contract.{knownState, link, toldOf}
+use Rattle.mdu.proofs.Known.{known-next}
+use Rattle.mdu.proofs.Body.{leads-passed}
+use Rattle.mdu.proofs.receiver.scan.Statement.{statement}
+use Rattle.mdu.proofs.receiver.scan.Tie as tie
+
+abbrev Inv-loop : tie.InvT-loop
+Inv-loop store₀ piece current₀ i₀ store current i =
+    (i ≤ length piece) × (knownState current ≡ true) × (length store ≡ length store₀) × (size ≤ length store₀)
+    × Passed link (current₀, store₀) piece (current, store) i
+
+abbrev μ-loop : tie.MeasureT-loop
+μ-loop store₀ piece current₀ i₀ store current i = length piece - i
+
+-- src/receiver.rt:267:5
+loop-holds : tie.Need-loop-holds Inv-loop μ-loop
+loop-holds c =
+    let s = c .before .before in
+    (omega arith, s .pre .0, refl, s .pre .1, passed-none link (s .args .state, s .args .store .now) (s .args .piece .now))
+
+-- src/receiver.rt:268:13
+advance-requires : tie.Need-advance-requires Inv-loop μ-loop
+advance-requires c κs = search needs
+
+-- src/receiver.rt:272:13
+same-length : tie.Need-same-length Inv-loop μ-loop
+same-length c = search needs
+
+-- src/receiver.rt:272:13
+returns : tie.Need-returns Inv-loop μ-loop
+returns c =
+    let g = c .before .before .before .before in
+    let l = g .before .before in
+    let a = l .before .before .before .args in
+    passed-all link (a .state, a .store .now) (g .advance .result .state, g .advance .last .1 .0) (a .piece .now) (g .advance .result .next) (c .if1 .taken)
+    (leads-passed (a .state, a .store .now) (l .loop .current, l .loop .store) (g .advance .result .state, g .advance .last .1 .0) (a .piece .now) (l .loop .i) (g .advance .result .next)
+    (l .loop .inv .4) (g .advance .ensures))
+
+-- src/receiver.rt:278:37
+shared-slice-read-step : tie.Need-shared-slice-read-step Inv-loop μ-loop
+shared-slice-read-step c = search needs
+
+-- src/receiver.rt:278:13
+step-requires : tie.Need-step-requires Inv-loop μ-loop
+step-requires c κs =
+    let g = c .before .before .before .before .before .before in
+    let l = g .before .before in (
+      g .advance .ensures .known,
+      omega (arith, g .advance .ensures .same-length, l .loop .inv),
+      g .advance .ensures .at-last (omega (arith, c .before .before .if1 .left, g .advance .ensures .within)),
+    )
+
+-- src/receiver.rt:281:9
+add-i : tie.Need-add-i Inv-loop μ-loop
+add-i c = search needs
+
+-- src/receiver.rt:283:12
+made-requires : tie.Need-made-requires Inv-loop μ-loop
+made-requires c κs = search needs
+
+-- src/receiver.rt:284:13
+same-length-2 : tie.Need-same-length-2 Inv-loop μ-loop
+same-length-2 c = search needs
+
+-- src/receiver.rt:284:13
+returns-2 : tie.Need-returns-2 Inv-loop μ-loop
+returns-2 c =
+    let s = c .before .before .before .before .before in
+    let g = s .before .before .before .before .before .before .before in
+    let l = g .before .before in
+    let a = l .before .before .before .args in
+    let c₀ : Lent link = (a .state, a .store .now) in
+    let d : Lent link = (g .advance .result .state, g .advance .last .1 .0) in
+    passed-event link c₀ d (s .step .result .state, s .step .last .1 .0) (a .piece .now) (g .advance .result .next) (toldOf (s .step .result .event))
+    (omega (arith, s .before .before .before .if1 .left, g .advance .ensures .within))
+    (leads-passed c₀ (l .loop .current, l .loop .store) d (a .piece .now) (l .loop .i) (g .advance .result .next) (l .loop .inv .4) (g .advance .ensures))
+    (s .step .ensures .0 .tells) (λ j. (s .step .ensures .0 .state j, s .step .ensures .1 j)) (sym (c .before .made .ensures) ∙ c .if2 .taken)
+
+-- src/receiver.rt:267:5
+loop-less : tie.Need-loop-less Inv-loop μ-loop
+loop-less c = search needs
+
+-- src/receiver.rt:267:5
+loop-again : tie.Need-loop-again Inv-loop μ-loop
+loop-again c =
+    let s = c .before .before .before .before .before in
+    let g = s .before .before .before .before .before .before .before in
+    let l = g .before .before in
+    let a = l .before .before .before .args in
+    let c₀ : Lent link = (a .state, a .store .now) in
+    let d : Lent link = (g .advance .result .state, g .advance .last .1 .0) in (
+      omega arith,
+      ap knownState (s .step .ensures .0 .state)
+          ∙ known-next (d .0) (d .1) (getD (a .piece .now) (g .advance .result .next) 0) (g .advance .ensures .known) (omega (arith, g .advance .ensures .same-length, l .loop .inv)),
+      s .step .kept .1 .0 ∙ g .advance .ensures .same-length ∙ l .loop .inv .2,
+      l .loop .inv .3,
+      passed-more link c₀ d (s .step .result .state, s .step .last .1 .0) (a .piece .now) (g .advance .result .next) (toldOf (s .step .result .event))
+          (omega (arith, s .before .before .before .if1 .left, g .advance .ensures .within))
+          (leads-passed c₀ (l .loop .current, l .loop .store) d (a .piece .now) (l .loop .i) (g .advance .result .next) (l .loop .inv .4) (g .advance .ensures))
+          (s .step .ensures .0 .tells) (λ j. (s .step .ensures .0 .state j, s .step .ensures .1 j)) (sym (c .before .made .ensures) ∙ c .if2 .left),
+    )
+
+pub scan-spec : {M : Type 1} → statement M
+scan-spec =
+    tie.close
+    (tie.spec
+    Inv-loop
+    μ-loop
+    loop-holds
+    advance-requires
+    same-length
+    returns
+    shared-slice-read-step
+    step-requires
+    add-i
+    made-requires
+    same-length-2
+    returns-2
+    loop-less
+    loop-again)

@@ -1,0 +1,109 @@
+// The MDU link of lane signs.
+mod header;
+mod receiver;
+mod writer;
+
+use framing::Answer;
+ghost use mathlib.Core.Path.{_≡_};
+ghost use Rattle.framing.specs.Answer.{outcomeOf};
+ghost use Rattle.framing.specs.Writer.{writes};
+ghost use Rattle.framing.specs.Link.{answer};
+ghost use Rattle.mdu.specs.Frame.{ok, frame};
+ghost use Rattle.mdu.specs.Contract.{freshState, dataOf, link, answerOf};
+
+// The least store of a receiver: a header of 6 bytes, a body of at most 1,025, a check value of 2.
+const SIZE: usize = 1033;
+
+// What the receiver keeps between calls: what every link's does, and from byte six of a frame on its stated length.
+pub struct State {
+    pub base: framing::State,
+    pub length: usize,
+}
+
+// An accepted message: its address, and the length of its body, which lies in the store from place 6.
+pub struct Message {
+    pub address: u8,
+    pub length: usize,
+}
+
+pub enum Event {
+    Nothing,
+    Accepted(Message),
+    Refused(u8),
+}
+
+pub struct Received {
+    pub event: Event,
+    pub used: usize,
+    pub state: State,
+}
+
+// A receiver that has read nothing.
+pub fn fresh() -> State
+    ensures { λ r. ⌜ r ≡ freshState ⌝ }
+{
+    State {
+        base: framing::fresh(),
+        length: 0,
+    }
+}
+
+// Writes the frame of a message at the start of the lent memory, and answers its length.
+pub fn write(address: u8, body: &[u8], out: &mut [u8]) -> Answer
+    ensures { λ r. ⌜ (outcomeOf r, now (out .exit)) ≡ writes ok frame (record { address = address; body = now (body .entry) }) (now (out .entry)) ⌝ }
+{
+    let n = body.len();
+    if address < 1 {
+        return Answer::Refused(framing::refusal::UNSENDABLE);
+    }
+    if header::length_ok(n) {
+        let end = 8 + n;
+        if end <= out.len() {
+            writer::put_frame(address, body, out);
+            Answer::Done(end)
+        } else {
+            Answer::Refused(framing::refusal::OUTPUT_SHORT)
+        }
+    } else {
+        Answer::Refused(framing::refusal::UNSENDABLE)
+    }
+}
+
+// A call of the receiver: uses the bytes of the piece up to and including the first that makes an event, else all.
+pub fn receive(state: State, store: &mut [u8], piece: &[u8]) -> Received
+    ensures { λ r. ⌜ answerOf r (now (store .exit)) ≡ answer link (state, now (store .entry)) (now (piece .entry)) ⌝ }
+{
+    if receiver::is_known(state) {
+        if SIZE <= store.len() {
+            receiver::scan(state, store, piece)
+        } else {
+            Received {
+                event: Event::Refused(framing::refusal::STORE_SHORT),
+                used: 0,
+                state: state,
+            }
+        }
+    } else {
+        Received {
+            event: Event::Refused(framing::refusal::UNKNOWN_STATE),
+            used: 0,
+            state: state,
+        }
+    }
+}
+
+// The body of a message, as a part of the store; an empty part where it does not lie in the store.
+pub fn data(store: &[u8], message: Message) -> &[u8]
+    ensures { λ r. ⌜ now r ≡ dataOf (now (store .entry)) message ⌝ }
+{
+    let length = message.length;
+    if store.len() < 6 {
+        return &store[..0];
+    }
+    if length <= store.len() - 6 {
+        let end = 6 + length;
+        &store[6..end]
+    } else {
+        &store[..0]
+    }
+}
