@@ -6,6 +6,7 @@ use super::SIZE;
 use super::State;
 use super::header;
 use super::writer;
+use runs::least;
 ghost use mathlib.Core.Path.{_≡_};
 ghost use mathlib.Core.Bool.{true};
 ghost use mathlib.Core.Option.{some};
@@ -208,13 +209,6 @@ fn made(event: Event) -> bool
         Event::Accepted(_) => true,
         Event::Refused(_) => true,
     }
-}
-
-// The smaller of two numbers.
-fn least(a: usize, b: usize) -> usize
-    ensures { λ r. ⌜ (r ≤ a) × (r ≤ b) × (r < a → b ≤ r) ⌝ }
-{
-    if a < b { a } else { b }
 }
 
 // The bytes of a body and its check value that the piece has from a place on, but for the last.

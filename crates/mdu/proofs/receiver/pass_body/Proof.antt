@@ -76,8 +76,8 @@ returns c =
     let long : a .from + n - a .from ≡ n = omega arith in
     let fits : a .state .base .«open» < 2 ^ 32 = omega (arith, l .before .struct-known .given) in
     leads-body (a .piece .now) (a .store .now) (p .put-bytes .last .0) (a .state) (record { base = c .reopen .result; length = a .state .length }) (a .from) n
-    (s .pre .0 .mode) (s .pre .1) (s .pre .0 .room) fits (omega (arith, l .least .ensures .0)) (omega (arith, l .least .ensures .1, s .pre .1))
-    (λ h. omega (arith, l .least .ensures .2 (omega arith))) (simp (c .reopen .ensures, c .before .wrapping-add-u32 .ensures))
+    (s .pre .0 .mode) (s .pre .1) (s .pre .0 .room) fits (omega (arith, l .least .ensures)) (omega (arith, l .least .ensures, s .pre .1))
+    (λ h. omega (arith, l .least .ensures)) (simp (c .reopen .ensures, c .before .wrapping-add-u32 .ensures))
     (p .put-bytes .ensures ∙ ap (λ (k : ℕ). sets (a .store .now) at (take k (drop (a .from) (a .piece .now)))) long)
 
 pub pass-body-spec : {M : Type 1} → statement M
