@@ -1,39 +1,39 @@
 -- A host's call on one whole frame: one call of a fresh receiver on the whole run.
-use Prim.Native.Nat.{ℕ, _^_}
+use Prim.Native.Nat.{ℕ, _^_, _≤_, _<_}
 use mathlib.Core.Bool.{Bool, true, cond, _&&_}
 use mathlib.Core.Path.{_≡_}
 use mathlib.Core.List.{List}
-use mathlib.Core.Option.{Option, none, some}
-use Prim.Native.Nat.{_≤_, _<_}
 use lib.Dec.{ltb, eqb}
 use lib.ListN.{length}
 use Rattle.runs.specs.Runs.{Bytes}
 use Rattle.framing.specs.Answer.{Outcome, done, refused}
-use Rattle.framing.specs.Segment.{Event, message, refusal}
-use Rattle.framing.specs.Link.{Link, called}
+use Rattle.framing.specs.Link.{Link, Told, nothing, numbers, number, answer}
 
 -- a refusal stays; a message stays if the run is exactly its frame; anything else is 6
-abbrev pub settle : {M : Type 0} → Bool → Option (Event M) → Outcome M
-settle exact none = refused 6
-settle exact (some (refusal n)) = refused n
-settle exact (some (message m)) = cond exact (done m) (refused 6)
+abbrev pub settle : {N : Type 0} → Bool → Told N → Outcome N
+settle exact nothing = refused 6
+settle exact (numbers v) = cond exact (done v) (refused 6)
+settle exact (number n) = refused n
 
 -- the call used all n bytes, and none of them is noise; the noise count goes round at 2^32, and no frame is as long as that
 abbrev pub exactly : ℕ → ℕ → ℕ → Bool
 exactly n used noise = ltb n (2 ^ 32) && (eqb used n && eqb noise 0)
 
 module _ (L : Link) where
-  -- what a run is read as, with a store: the receiver's own 1 comes first
-  abbrev pub wholeOn : List ℕ → List ℕ → Outcome (L .Message)
-  wholeOn run store =
-      let f = called L (L .fresh, store) run in
-      settle (exactly (length run) (f .used) (L .noise (f .after .0))) (f .event)
+  -- the numbers of the message that a run is read as, or a refusal (the receiver's own 1 comes first), and the store afterwards
+  abbrev pub readOn : List ℕ → List ℕ → Outcome (L .Numbers) × List ℕ
+  readOn run store =
+      let a = answer L (L .fresh, store) run in
+      (settle (exactly (length run) (a .1) (L .noise (a .2 .0))) (a .0), a .2 .1)
 
-  -- only the frame of a message that may be sent is read as it, and each is
+  -- only a frame is read as a message, which may be sent
   abbrev pub OnlyFrames : Type 0
-  OnlyFrames = (run store : List ℕ) (m : L .Message) → Bytes run → L .size ≤ length store → wholeOn run store ≡ done m → (L .ok m ≡ true) × (run ≡ L .frame m)
+  OnlyFrames =
+      (run store : List ℕ) (v : L .Numbers) → Bytes run → L .size ≤ length store → readOn run store .0 ≡ done v
+      → (L .ok (L .messageOf (readOn run store .1) v) ≡ true) × (run ≡ L .frame (L .messageOf (readOn run store .1) v))
 
+  -- and each frame is read as its message
   abbrev pub FramesRead : Type 0
   FramesRead =
       (m : L .Message) (store : List ℕ) → L .Typed m → L .ok m ≡ true → length (L .frame m) < 2 ^ 32 → L .size ≤ length store
-      → wholeOn (L .frame m) store ≡ done m
+      → (v : L .Numbers) × (readOn (L .frame m) store .0 ≡ done v) × (L .messageOf (readOn (L .frame m) store .1) v ≡ m)

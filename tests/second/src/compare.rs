@@ -1,0 +1,474 @@
+//! Compares the nine functions of the C interface with this implementation over
+//! generated calls: the answer, every byte of lent memory and of a canary on
+//! both sides of it, and that the input bytes stay as they were.
+
+use crate::dle::{self, Dle};
+use crate::expansion::{self, Expansion};
+use crate::gen::{self, Wire, Xorshift};
+use crate::listing::hex;
+use crate::mdu::{self, Mdu};
+use crate::pcs::{self, Pcs};
+use crate::stream::Link;
+use crate::whole;
+
+/// The C interface on slices.
+pub trait Host {
+    /// Receiver, sender, kind, number, sender's port, receiver's port.
+    fn pcs_write(&self, fields: [u8; 6], data: &[u8], out: &mut [u8]) -> i32;
+    fn mdu_write(&self, address: u8, body: &[u8], out: &mut [u8]) -> i32;
+    fn dle_write(&self, sequence: u8, node: u8, data: &[u8], out: &mut [u8]) -> i32;
+    fn dle_write_error(&self, sequence: u8, node: u8, error: u8, out: &mut [u8]) -> i32;
+    /// Id, type, repeat, address.
+    fn expansion_write(&self, fields: [u8; 4], data: &[u8], out: &mut [u8]) -> i32;
+    fn pcs_read(&self, frame: &[u8], store: &mut [u8]) -> u64;
+    fn mdu_read(&self, frame: &[u8], store: &mut [u8]) -> u64;
+    fn dle_read(&self, frame: &[u8], store: &mut [u8]) -> u64;
+    fn expansion_read(&self, frame: &[u8], store: &mut [u8]) -> u64;
+}
+
+/// Writers answer the frame's length, or minus the refusal number.
+fn writer_answer(result: Result<usize, u8>) -> i32 {
+    match result {
+        Ok(length) => length as i32,
+        Err(number) => -(number as i32),
+    }
+}
+
+/// This implementation.
+pub struct Own;
+
+impl Host for Own {
+    fn pcs_write(&self, f: [u8; 6], data: &[u8], out: &mut [u8]) -> i32 {
+        writer_answer(pcs::write(f[0], f[1], f[2], f[3], f[4], f[5], data, out))
+    }
+    fn mdu_write(&self, address: u8, body: &[u8], out: &mut [u8]) -> i32 {
+        writer_answer(mdu::write(address, body, out))
+    }
+    fn dle_write(&self, sequence: u8, node: u8, data: &[u8], out: &mut [u8]) -> i32 {
+        writer_answer(dle::write(sequence, node, data, out))
+    }
+    fn dle_write_error(&self, sequence: u8, node: u8, error: u8, out: &mut [u8]) -> i32 {
+        writer_answer(dle::write_error(sequence, node, error, out))
+    }
+    fn expansion_write(&self, f: [u8; 4], data: &[u8], out: &mut [u8]) -> i32 {
+        writer_answer(expansion::write(f[0], f[1], f[2], f[3], data, out))
+    }
+    fn pcs_read(&self, frame: &[u8], store: &mut [u8]) -> u64 {
+        whole::read::<Pcs>(frame, store)
+    }
+    fn mdu_read(&self, frame: &[u8], store: &mut [u8]) -> u64 {
+        whole::read::<Mdu>(frame, store)
+    }
+    fn dle_read(&self, frame: &[u8], store: &mut [u8]) -> u64 {
+        whole::read::<Dle>(frame, store)
+    }
+    fn expansion_read(&self, frame: &[u8], store: &mut [u8]) -> u64 {
+        whole::read::<Expansion>(frame, store)
+    }
+}
+
+/// The static library, through its C interface.
+#[cfg(feature = "host")]
+pub mod linked {
+    use super::Host;
+
+    extern "C" {
+        fn linebox_pcs_write(
+            receiver: u8, sender: u8, kind: u8, number: u8, sender_port: u8, receiver_port: u8,
+            data: *const u8, data_len: usize, out: *mut u8, out_len: usize,
+        ) -> i32;
+        fn linebox_mdu_write(address: u8, body: *const u8, body_len: usize, out: *mut u8, out_len: usize) -> i32;
+        fn linebox_dle_write(
+            sequence: u8, node: u8, data: *const u8, data_len: usize, out: *mut u8, out_len: usize,
+        ) -> i32;
+        fn linebox_dle_write_error(sequence: u8, node: u8, error: u8, out: *mut u8, out_len: usize) -> i32;
+        fn linebox_expansion_write(
+            id: u8, kind: u8, repeat: u8, address: u8, data: *const u8, data_len: usize, out: *mut u8, out_len: usize,
+        ) -> i32;
+        fn linebox_pcs_read(frame: *const u8, frame_len: usize, store: *mut u8, store_len: usize) -> u64;
+        fn linebox_mdu_read(frame: *const u8, frame_len: usize, store: *mut u8, store_len: usize) -> u64;
+        fn linebox_dle_read(frame: *const u8, frame_len: usize, store: *mut u8, store_len: usize) -> u64;
+        fn linebox_expansion_read(frame: *const u8, frame_len: usize, store: *mut u8, store_len: usize) -> u64;
+    }
+
+    pub struct Linked;
+
+    impl Host for Linked {
+        fn pcs_write(&self, f: [u8; 6], data: &[u8], out: &mut [u8]) -> i32 {
+            unsafe {
+                linebox_pcs_write(
+                    f[0], f[1], f[2], f[3], f[4], f[5],
+                    data.as_ptr(), data.len(), out.as_mut_ptr(), out.len(),
+                )
+            }
+        }
+        fn mdu_write(&self, address: u8, body: &[u8], out: &mut [u8]) -> i32 {
+            unsafe { linebox_mdu_write(address, body.as_ptr(), body.len(), out.as_mut_ptr(), out.len()) }
+        }
+        fn dle_write(&self, sequence: u8, node: u8, data: &[u8], out: &mut [u8]) -> i32 {
+            unsafe { linebox_dle_write(sequence, node, data.as_ptr(), data.len(), out.as_mut_ptr(), out.len()) }
+        }
+        fn dle_write_error(&self, sequence: u8, node: u8, error: u8, out: &mut [u8]) -> i32 {
+            unsafe { linebox_dle_write_error(sequence, node, error, out.as_mut_ptr(), out.len()) }
+        }
+        fn expansion_write(&self, f: [u8; 4], data: &[u8], out: &mut [u8]) -> i32 {
+            unsafe {
+                linebox_expansion_write(
+                    f[0], f[1], f[2], f[3], data.as_ptr(), data.len(), out.as_mut_ptr(), out.len(),
+                )
+            }
+        }
+        fn pcs_read(&self, frame: &[u8], store: &mut [u8]) -> u64 {
+            unsafe { linebox_pcs_read(frame.as_ptr(), frame.len(), store.as_mut_ptr(), store.len()) }
+        }
+        fn mdu_read(&self, frame: &[u8], store: &mut [u8]) -> u64 {
+            unsafe { linebox_mdu_read(frame.as_ptr(), frame.len(), store.as_mut_ptr(), store.len()) }
+        }
+        fn dle_read(&self, frame: &[u8], store: &mut [u8]) -> u64 {
+            unsafe { linebox_dle_read(frame.as_ptr(), frame.len(), store.as_mut_ptr(), store.len()) }
+        }
+        fn expansion_read(&self, frame: &[u8], store: &mut [u8]) -> u64 {
+            unsafe { linebox_expansion_read(frame.as_ptr(), frame.len(), store.as_mut_ptr(), store.len()) }
+        }
+    }
+}
+
+/// A function's name and the refusal numbers that it can give.
+struct Function {
+    name: &'static str,
+    refusals: &'static [u8],
+}
+
+const FUNCTIONS: [Function; 9] = [
+    Function { name: "linebox_pcs_write", refusals: &[2, 3] },
+    Function { name: "linebox_mdu_write", refusals: &[2, 3] },
+    Function { name: "linebox_dle_write", refusals: &[2, 3] },
+    Function { name: "linebox_dle_write_error", refusals: &[2] },
+    Function { name: "linebox_expansion_write", refusals: &[2, 3] },
+    Function { name: "linebox_pcs_read", refusals: &[1, 4, 5, 6, 8, 9, 10, 11, 13] },
+    Function { name: "linebox_mdu_read", refusals: &[1, 6, 8, 9, 10] },
+    Function { name: "linebox_dle_read", refusals: &[1, 4, 5, 6, 7, 10] },
+    Function { name: "linebox_expansion_read", refusals: &[1, 4, 5, 6, 7, 8, 9] },
+];
+
+/// One call: which function, its single numbers, its input bytes and how much
+/// memory (output or store) it is lent.
+struct Call {
+    function: usize,
+    numbers: Vec<u8>,
+    input: Vec<u8>,
+    lent: usize,
+}
+
+#[derive(Clone, Copy, Debug, PartialEq, Eq)]
+enum Answer {
+    Writer(i32),
+    Read(u64),
+}
+
+impl Answer {
+    /// 0 for success.
+    fn refusal(self) -> u64 {
+        match self {
+            Answer::Writer(number) if number < 0 => number.unsigned_abs() as u64,
+            Answer::Writer(_) => 0,
+            Answer::Read(bits) => bits & 255,
+        }
+    }
+}
+
+impl Call {
+    fn on(&self, host: &dyn Host, input: &[u8], lent: &mut [u8]) -> Answer {
+        let n = &self.numbers;
+        match self.function {
+            0 => Answer::Writer(host.pcs_write([n[0], n[1], n[2], n[3], n[4], n[5]], input, lent)),
+            1 => Answer::Writer(host.mdu_write(n[0], input, lent)),
+            2 => Answer::Writer(host.dle_write(n[0], n[1], input, lent)),
+            3 => Answer::Writer(host.dle_write_error(n[0], n[1], n[2], lent)),
+            4 => Answer::Writer(host.expansion_write([n[0], n[1], n[2], n[3]], input, lent)),
+            5 => Answer::Read(host.pcs_read(input, lent)),
+            6 => Answer::Read(host.mdu_read(input, lent)),
+            7 => Answer::Read(host.dle_read(input, lent)),
+            _ => Answer::Read(host.expansion_read(input, lent)),
+        }
+    }
+}
+
+/// Output memory: the exact room, one less, one more, none, more, anything.
+fn room(random: &mut Xorshift, exact: Result<usize, u8>) -> usize {
+    match exact {
+        Ok(exact) => match random.below(8) {
+            0..=2 => exact,
+            3 => exact - 1,
+            4 => exact + 1,
+            5 => random.below(exact + 1),
+            6 => exact + random.below(80),
+            _ => random.pick(&[0, 1, 2200]),
+        },
+        Err(_) => random.pick(&[0, 1, 8, 30, 300, 1200, 2200]),
+    }
+}
+
+/// A field from `least` to `most`, now and then any byte.
+fn field(random: &mut Xorshift, least: u8, most: u8) -> u8 {
+    if random.once_in(16) {
+        gen::edge(random)
+    } else {
+        gen::between(random, least, most)
+    }
+}
+
+fn writer_call(random: &mut Xorshift, function: usize) -> Call {
+    let mut length = gen::data_length(random);
+    let numbers: Vec<u8>;
+    let mut input = Vec::new();
+    let exact;
+    match function {
+        0 => {
+            let kind = field(random, 0, 3);
+            if kind >= 2 && !random.once_in(6) {
+                length = 0;
+            }
+            let receiver = if random.once_in(6) { 255 } else { field(random, 1, 250) };
+            numbers = vec![receiver, field(random, 1, 250), kind, field(random, 1, 250), field(random, 1, 250), field(random, 1, 250)];
+            input = gen::contents(random, length);
+            let n = &numbers;
+            exact = pcs::frame(n[0], n[1], n[2], n[3], n[4], n[5], &input).map(|frame| frame.len());
+        }
+        1 => {
+            numbers = vec![field(random, 0, 255)];
+            input = gen::contents(random, length);
+            exact = mdu::frame(numbers[0], &input).map(|frame| frame.len());
+        }
+        2 => {
+            numbers = vec![gen::edge(random), gen::edge(random)];
+            input = gen::contents(random, length);
+            exact = dle::frame(numbers[0], numbers[1], &input).map(|frame| frame.len());
+        }
+        3 => {
+            numbers = vec![gen::edge(random), gen::edge(random), gen::edge(random)];
+            exact = Ok(dle::error_frame(numbers[0], numbers[1], numbers[2]).len());
+        }
+        _ => {
+            let kind = field(random, 0, 2);
+            if kind >= 1 && !random.once_in(6) {
+                length = 0;
+            }
+            numbers = vec![gen::edge(random), kind, field(random, 0, 3), gen::edge(random)];
+            input = gen::contents(random, length);
+            let n = &numbers;
+            exact = expansion::frame(n[0], n[1], n[2], n[3], &input).map(|frame| frame.len());
+        }
+    }
+    Call { function, numbers, input, lent: room(random, exact) }
+}
+
+fn read_call(random: &mut Xorshift, function: usize) -> Call {
+    let (wire, size) = match function {
+        5 => (Wire::Pcs, Pcs::SIZE),
+        6 => (Wire::Mdu, Mdu::SIZE),
+        7 => (Wire::Dle, Dle::SIZE),
+        _ => (Wire::Expansion, Expansion::SIZE),
+    };
+    let lent = match random.below(24) {
+        0 => size - 1,
+        1 => random.pick(&[0, 1, size / 3, size - 2]),
+        2 => size + 1,
+        3 => size + random.below(300),
+        _ => size,
+    };
+    Call { function, numbers: Vec::new(), input: gen::run(random, wire), lent }
+}
+
+const GUARD: usize = 32;
+
+/// A run of memory with a canary of `GUARD` bytes on both sides.
+fn guarded(random: &mut Xorshift, length: usize) -> Vec<u8> {
+    let mut memory = Vec::with_capacity(length + 2 * GUARD);
+    while memory.len() < length + 2 * GUARD {
+        memory.extend(random.next().to_le_bytes());
+    }
+    memory.truncate(length + 2 * GUARD);
+    memory
+}
+
+fn inside(memory: &mut [u8]) -> &mut [u8] {
+    let end = memory.len() - GUARD;
+    &mut memory[GUARD..end]
+}
+
+/// What a comparison found: counts of each answer, by function and number.
+pub struct Counts([[u64; 19]; 9]);
+
+/// Compares `count` generated calls; the text of the first difference otherwise.
+pub fn compare(host: &dyn Host, seed: u64, count: u64) -> Result<Counts, String> {
+    let mut random = Xorshift::new(seed);
+    let mut counts = Counts([[0; 19]; 9]);
+    for number in 0..count {
+        // Reads have more to show than writers.
+        let function = match number % 13 {
+            0..=8 => (number % 13) as usize,
+            more => (more - 4) as usize,
+        };
+        let call = if function < 5 { writer_call(&mut random, function) } else { read_call(&mut random, function) };
+
+        let mut input = guarded(&mut random, call.input.len());
+        inside(&mut input).copy_from_slice(&call.input);
+        let canary = guarded(&mut random, call.lent);
+
+        let mut expected_memory = canary.clone();
+        let expected = call.on(&Own, &call.input, inside(&mut expected_memory));
+
+        let mut memory = canary.clone();
+        let mut given_input = input.clone();
+        let answer = call.on(host, inside(&mut given_input), inside(&mut memory));
+
+        if answer != expected || memory != expected_memory || given_input != input {
+            let differing = memory.iter().zip(&expected_memory).position(|(a, b)| a != b);
+            let mut text = format!("difference at call {number} (seed {seed}): {}\n", FUNCTIONS[function].name);
+            text += &format!("numbers  {:?}\n", call.numbers);
+            text += &format!("input    {} bytes {}\n", call.input.len(), hex(&call.input));
+            text += &format!("lent     {} bytes\n", call.lent);
+            text += &format!("answer   {answer:?} (refusal {})\n", answer.refusal());
+            text += &format!("expected {expected:?} (refusal {})\n", expected.refusal());
+            if let Some(place) = differing {
+                let end = memory.len() - GUARD;
+                text += &format!("memory differs first at place {} of the lent bytes\n", place as i64 - GUARD as i64);
+                text += &format!("before   {}\n", hex(&canary[GUARD..end]));
+                text += &format!("memory   {}\n", hex(&memory[GUARD..end]));
+                text += &format!("expected {}\n", hex(&expected_memory[GUARD..end]));
+            }
+            if given_input != input {
+                text += "the input bytes were changed\n";
+            }
+            return Err(text);
+        }
+        counts.0[function][expected.refusal() as usize] += 1;
+    }
+    Ok(counts)
+}
+
+impl Counts {
+    /// One row a function, one column a number; `.` where it can't be given.
+    pub fn table(&self) -> String {
+        let numbers = [0usize, 1, 2, 3, 4, 5, 6, 7, 8, 9, 10, 11, 13];
+        let mut text = format!("{:<24}", "function");
+        for number in numbers {
+            text += &if number == 0 { format!("{:>8}", "ok") } else { format!("{number:>8}") };
+        }
+        text += "\n";
+        for (function, row) in FUNCTIONS.iter().zip(&self.0) {
+            text += &format!("{:<24}", function.name);
+            for number in numbers {
+                let can = number == 0 || function.refusals.contains(&(number as u8));
+                text += &if can || row[number] > 0 { format!("{:>8}", row[number]) } else { format!("{:>8}", ".") };
+            }
+            text += "\n";
+        }
+        text
+    }
+
+    /// Answers that a function can give and that were never seen, and the other way round.
+    pub fn missing(&self) -> Vec<String> {
+        let mut missing = Vec::new();
+        for (function, row) in FUNCTIONS.iter().zip(&self.0) {
+            for (number, seen) in row.iter().enumerate() {
+                let can = number == 0 || function.refusals.contains(&(number as u8));
+                if can && *seen == 0 {
+                    missing.push(format!("{} never answered {number}", function.name));
+                }
+                if !can && *seen > 0 {
+                    missing.push(format!("{} can't answer {number} and did", function.name));
+                }
+            }
+        }
+        missing
+    }
+}
+
+#[cfg(test)]
+mod tests {
+    use super::*;
+
+    #[test]
+    fn own_against_own_sees_every_number() {
+        for seed in [0, 1, 2, 42] {
+            let counts = compare(&Own, seed, 4000).unwrap_or_else(|text| panic!("{text}"));
+            assert!(counts.missing().is_empty(), "{:?}", counts.missing());
+        }
+    }
+
+    /// One wrong answer at a time, which the comparison must find.
+    struct Wrong(u8);
+
+    impl Host for Wrong {
+        fn pcs_write(&self, f: [u8; 6], data: &[u8], out: &mut [u8]) -> i32 {
+            let answer = Own.pcs_write(f, data, out);
+            if self.0 == 0 && answer > 0 && out.len() > answer as usize {
+                out[answer as usize] = 0; // a byte after the frame
+            }
+            answer
+        }
+        fn mdu_write(&self, address: u8, body: &[u8], out: &mut [u8]) -> i32 {
+            if self.0 == 1 && body.len() == 1025 {
+                return -3;
+            }
+            Own.mdu_write(address, body, out)
+        }
+        fn dle_write(&self, sequence: u8, node: u8, data: &[u8], out: &mut [u8]) -> i32 {
+            if self.0 == 2 && out.len() < 4 {
+                return -2; // 2 before 3
+            }
+            Own.dle_write(sequence, node, data, out)
+        }
+        fn dle_write_error(&self, sequence: u8, node: u8, error: u8, out: &mut [u8]) -> i32 {
+            if self.0 == 3 && !out.is_empty() {
+                out[0] = 0x10; // writes although refused
+            }
+            Own.dle_write_error(sequence, node, error, out)
+        }
+        fn expansion_write(&self, f: [u8; 4], data: &[u8], out: &mut [u8]) -> i32 {
+            if self.0 == 4 && data.len() == 1024 {
+                return -3;
+            }
+            Own.expansion_write(f, data, out)
+        }
+        fn pcs_read(&self, frame: &[u8], store: &mut [u8]) -> u64 {
+            let answer = Own.pcs_read(frame, store);
+            if self.0 == 5 && answer == 13 {
+                return 10;
+            }
+            if self.0 == 6 && answer & 255 == 0 && store.len() > 1180 {
+                store[1180] = 0; // a byte behind the frame's
+            }
+            answer
+        }
+        fn mdu_read(&self, frame: &[u8], store: &mut [u8]) -> u64 {
+            if self.0 == 7 && frame.first() == Some(&0xFF) {
+                return Own.mdu_read(&frame[1..], store); // noise in front let through
+            }
+            Own.mdu_read(frame, store)
+        }
+        fn dle_read(&self, frame: &[u8], store: &mut [u8]) -> u64 {
+            let answer = Own.dle_read(frame, store);
+            if self.0 == 8 && answer & (1 << 20) != 0 {
+                return answer & !(1 << 20);
+            }
+            answer
+        }
+        fn expansion_read(&self, frame: &[u8], store: &mut [u8]) -> u64 {
+            if self.0 == 9 && store.len() == 1031 {
+                return Own.expansion_read(frame, &mut vec![0; 1032]); // 1 not given
+            }
+            Own.expansion_read(frame, store)
+        }
+    }
+
+    #[test]
+    fn each_wrong_answer_is_found() {
+        for wrong in 0..10 {
+            assert!(compare(&Wrong(wrong), 1, 40_000).is_err(), "wrong answer {wrong} was not found");
+        }
+        assert!(compare(&Wrong(255), 1, 4000).is_ok());
+    }
+}

@@ -1,0 +1,144 @@
+//! The gate exchange (asking end and answering end) and the chain address.
+
+/// The asking end's state. Any numbers may stand in it; fresh is all zeros.
+/// `id` is the waiting id while waiting and the next one to be used while idle.
+#[derive(Clone, Copy, Debug, Default, PartialEq, Eq)]
+pub struct Asking {
+    pub mode: u32,
+    pub id: u8,
+    pub repeat: u8,
+    pub sent: u32,
+}
+
+const IDLE: u32 = 0;
+const WAITING: u32 = 1;
+
+/// A wait is over after so many milliseconds.
+const WAIT: u32 = 100;
+
+#[derive(Clone, Copy, Debug, PartialEq, Eq)]
+pub enum Answer {
+    Nothing,
+    /// Send the request with this id and repeat.
+    Send { id: u8, repeat: u8 },
+    Done,
+    GivenUp,
+    Refused(u8),
+}
+
+/// 12: an unknown mode or a repeat above 3, in either mode.
+fn odd(asking: Asking) -> bool {
+    asking.mode > WAITING || asking.repeat > 3
+}
+
+/// Idle again, the next id standing by.
+fn idle(asking: Asking) -> Asking {
+    Asking { mode: IDLE, id: asking.id.wrapping_add(1), repeat: 0, sent: asking.sent }
+}
+
+/// Start: 12, then 14 while waiting; idle it sends the next id with repeat 0.
+pub fn start(asking: Asking, now: u32) -> (Asking, Answer) {
+    if odd(asking) {
+        return (asking, Answer::Refused(12));
+    }
+    if asking.mode == WAITING {
+        return (asking, Answer::Refused(14));
+    }
+    let waiting = Asking { mode: WAITING, id: asking.id, repeat: 0, sent: now };
+    (waiting, Answer::Send { id: asking.id, repeat: 0 })
+}
+
+/// Resend with repeat plus 1; if the repeat was already 3, give up.
+fn again(asking: Asking, now: u32) -> (Asking, Answer) {
+    if asking.repeat == 3 {
+        return (idle(asking), Answer::GivenUp);
+    }
+    let resent = Asking { repeat: asking.repeat + 1, sent: now, ..asking };
+    (resent, Answer::Send { id: resent.id, repeat: resent.repeat })
+}
+
+/// The clock: the wait is over when now less sent, going round, is at least 100.
+pub fn tick(asking: Asking, now: u32) -> (Asking, Answer) {
+    if odd(asking) {
+        return (asking, Answer::Refused(12));
+    }
+    if asking.mode == WAITING && now.wrapping_sub(asking.sent) >= WAIT {
+        return again(asking, now);
+    }
+    (asking, Answer::Nothing)
+}
+
+/// A frame of type `kind` with `id` arrived.
+pub fn arrival(asking: Asking, kind: u8, id: u8, now: u32) -> (Asking, Answer) {
+    if odd(asking) {
+        return (asking, Answer::Refused(12));
+    }
+    if asking.mode == WAITING && id == asking.id {
+        if kind == 1 {
+            return (idle(asking), Answer::Done);
+        }
+        if kind == 2 {
+            return again(asking, now);
+        }
+    }
+    (asking, Answer::Nothing)
+}
+
+/// The answering end's state: whether a request was handed out, and its id.
+#[derive(Clone, Copy, Debug, Default, PartialEq, Eq)]
+pub struct Answering {
+    pub handed: bool,
+    pub id: u8,
+}
+
+/// A frame that answers: repeat 0, no data.
+#[derive(Clone, Copy, Debug, PartialEq, Eq)]
+pub struct Reply {
+    pub id: u8,
+    pub kind: u8,
+    pub repeat: u8,
+    pub address: u8,
+}
+
+/// Address 0 from a board; from the head, the address as it arrived.
+fn reply(id: u8, kind: u8, head: bool, address: u8) -> Reply {
+    Reply { id, kind, repeat: 0, address: if head { address } else { 0 } }
+}
+
+/// An accepted frame: every request is acknowledged, and handed out unless its
+/// id is the last handed out and its repeat is above 0. Gives the new state,
+/// the reply and whether the request is handed out.
+pub fn accepted(answering: Answering, head: bool, id: u8, kind: u8, repeat: u8, address: u8) -> (Answering, Option<Reply>, bool) {
+    if kind != 0 {
+        return (answering, None, false);
+    }
+    let acknowledgement = Some(reply(id, 1, head, address));
+    if answering.handed && answering.id == id && repeat > 0 {
+        return (answering, acknowledgement, false);
+    }
+    (Answering { handed: true, id }, acknowledgement, true)
+}
+
+/// A refused frame: number 8 is answered by type 2 with the id as gathered.
+/// No reply where the store can't hold an address (left free by the paper).
+pub fn refused(head: bool, number: u8, store: &[u8]) -> Option<Reply> {
+    if number != 8 || store.len() < 4 {
+        return None;
+    }
+    Some(reply(store[0], 2, head, store[3]))
+}
+
+/// Downward an address steps down by one; 0 before gives 15.
+pub fn down(address: u8) -> Result<u8, u8> {
+    address.checked_sub(1).ok_or(15)
+}
+
+/// After a step down, 0 means here.
+pub fn here(address: u8) -> bool {
+    address == 0
+}
+
+/// Upward it steps up; 255 gives 15.
+pub fn up(address: u8) -> Result<u8, u8> {
+    address.checked_add(1).ok_or(15)
+}

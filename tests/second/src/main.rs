@@ -1,0 +1,116 @@
+//! Second implementation of linebox, written from document 01 alone.
+//! See README.md for how to run each part.
+
+mod captures;
+mod compare;
+mod crc;
+mod dle;
+mod escape;
+mod expansion;
+mod gate;
+mod gen;
+mod listing;
+mod mdu;
+mod packing;
+mod pcs;
+mod record;
+mod stream;
+mod sum;
+#[cfg(test)]
+mod tests;
+mod vectors;
+mod whole;
+
+use std::env;
+use std::io::{self, Read, Write};
+use std::path::Path;
+use std::process::ExitCode;
+
+const USAGE: &str = "usage: second listing < input
+       second compare SEED COUNT
+       second captures DIR SEED COUNT
+       second vectors";
+
+#[cfg(feature = "host")]
+fn run_compare(seed: u64, count: u64) -> ExitCode {
+    finish(compare::compare(&compare::linked::Linked, seed, count))
+}
+
+#[cfg(not(feature = "host"))]
+fn run_compare(seed: u64, count: u64) -> ExitCode {
+    eprintln!("built without the feature `host`: comparing this implementation with itself only");
+    let _ = finish(compare::compare(&compare::Own, seed, count));
+    ExitCode::from(2)
+}
+
+fn finish(result: Result<compare::Counts, String>) -> ExitCode {
+    match result {
+        Err(difference) => {
+            print!("{difference}");
+            ExitCode::FAILURE
+        }
+        Ok(counts) => {
+            print!("{}", counts.table());
+            let missing = counts.missing();
+            for line in &missing {
+                println!("{line}");
+            }
+            if missing.is_empty() {
+                println!("no difference");
+                ExitCode::SUCCESS
+            } else {
+                ExitCode::FAILURE
+            }
+        }
+    }
+}
+
+fn print_all(text: &str) -> ExitCode {
+    match io::stdout().lock().write_all(text.as_bytes()) {
+        Ok(()) => ExitCode::SUCCESS,
+        Err(error) => {
+            eprintln!("{error}");
+            ExitCode::FAILURE
+        }
+    }
+}
+
+fn main() -> ExitCode {
+    let arguments: Vec<String> = env::args().skip(1).collect();
+    let words: Vec<&str> = arguments.iter().map(String::as_str).collect();
+    match words.as_slice() {
+        ["listing"] => {
+            let mut input = Vec::new();
+            if let Err(error) = io::stdin().lock().read_to_end(&mut input) {
+                eprintln!("{error}");
+                return ExitCode::FAILURE;
+            }
+            print_all(&listing::listing(&input))
+        }
+        ["vectors"] => print_all(&vectors::vectors()),
+        ["compare", seed, count] => match (seed.parse(), count.parse()) {
+            (Ok(seed), Ok(count)) => run_compare(seed, count),
+            _ => {
+                eprintln!("{USAGE}");
+                ExitCode::from(2)
+            }
+        },
+        ["captures", folder, seed, count] => match (seed.parse(), count.parse()) {
+            (Ok(seed), Ok(count)) => match captures::captures(Path::new(folder), seed, count) {
+                Ok(()) => ExitCode::SUCCESS,
+                Err(error) => {
+                    eprintln!("{error}");
+                    ExitCode::FAILURE
+                }
+            },
+            _ => {
+                eprintln!("{USAGE}");
+                ExitCode::from(2)
+            }
+        },
+        _ => {
+            eprintln!("{USAGE}");
+            ExitCode::from(2)
+        }
+    }
+}
