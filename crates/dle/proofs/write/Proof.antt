@@ -1,0 +1,35 @@
+use borrow.Author.Needs.{needs}
+use borrow.Author.Tests.{le-leb, lt-leb}
+use lib.ListN.{length}
+use Rattle.dle.proofs.write.Statement.{statement}
+use Rattle.dle.proofs.write.Tie as tie
+
+returns : tie.Need-returns
+returns c = rw (lt-leb 1 (length (c .before .before .before .args .«data» .now)) (c .if1 .taken))
+
+cast-t9 : tie.Need-cast-t9
+cast-t9 c = search needs
+
+slice-aggregate-send : tie.Need-slice-aggregate-send
+slice-aggregate-send c = search needs
+
+send-requires : tie.Need-send-requires
+send-requires c κs = search needs
+
+same-length : tie.Need-same-length
+same-length c = search needs
+
+returns-2 : tie.Need-returns-2
+returns-2 c =
+    let n = length (c .before .before .before .before .before .before .before .before .before .args .«data» .now) in
+    rw (le-leb 1 n (c .before .before .before .before .before .before .if1 .left), le-leb n 255 (c .before .before .before .before .before .if2 .taken)) (c .before .before .send .ensures)
+
+returns-3 : tie.Need-returns-3
+returns-3 c =
+    let n = length (c .before .before .before .before .args .«data» .now) in
+    rw (le-leb 1 n (c .before .if1 .left), lt-leb n 255 (c .if2 .left))
+
+pub write-spec : {M : Type 1} → statement M
+write-spec =
+    tie.close
+    (tie.spec returns cast-t9 slice-aggregate-send send-requires same-length returns-2 returns-3)

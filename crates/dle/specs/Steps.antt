@@ -1,0 +1,25 @@
+-- What the receiver's private functions answer: the steps of a call.
+use Prim.Native.Nat.{ℕ, _≤_}
+use mathlib.Core.Path.{_≡_}
+use mathlib.Core.List.{List}
+use mathlib.Core.Option.{Option}
+use lib.ListN.{length}
+use Rattle.framing.specs.Segment.{Segment, eventOf}
+use Rattle.framing.specs.State.{stateAfter}
+use Rattle.framing.specs.Link.{told}
+use Rattle.framing.specs.declared.State.{State}
+use Rattle.dle.specs.Frame as Frame
+use Rattle.dle.specs.Rules.{Phase, size, gathered, held}
+use Rattle.dle.specs.Contract.{modeOf, link, toldOf}
+use Rattle.dle.specs.declared.Stepped.{Stepped}
+
+-- what is answered of a byte by what the rules give: the phase after it, and the segment that it closes
+pub record Answers (s : State) (c : Phase × Option (Segment Frame.Message)) (r : Stepped) : Type 0 where
+  pub tells : toldOf (r .event) ≡ told link (eventOf (c .1))
+  pub state : r .state ≡ stateAfter modeOf gathered held s (c .0) (c .1)
+
+-- a frame is open, its gathered bytes in a store of the link's size
+pub record Open (s : State) (store : List ℕ) : Type 0 where
+  pub mode : 2 ≤ s .mode
+  pub count : s .count ≤ size
+  pub room : size ≤ length store

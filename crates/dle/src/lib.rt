@@ -1,0 +1,338 @@
+// The DLE link of gas meters: writer and receiver.
+use escape::Meaning;
+use framing::Answer;
+use framing::State;
+use framing::refusal;
+ghost use mathlib.Core.Path.{_≡_};
+ghost use mathlib.Core.List.{List, [], _∷_, _++_};
+ghost use mathlib.Core.Option.{some};
+ghost use Prim.Native.Nat.{ℕ, _+_, _≤_};
+ghost use lib.ListN.{length, take};
+ghost use lib.Seq.{sets};
+ghost use Rattle.runs.specs.Runs.{over};
+ghost use Rattle.framing.specs.Answer.{outcomeOf, storedAt};
+ghost use Rattle.framing.specs.Writer.{writes};
+ghost use Rattle.framing.specs.Receiver.{feed};
+ghost use Rattle.framing.specs.Segment.{eventOf};
+ghost use Rattle.framing.specs.Link.{isEvent, told, stepOn, answered, answer};
+ghost use Rattle.escape.specs.Code.{meaningOf, hide};
+ghost use Rattle.escape.specs.Dle.{dle};
+ghost use Rattle.dle.specs.Frame.{content, error, ok, enclose, frame};
+ghost use Rattle.dle.specs.Rules.{hunting, half, size, gathered, judge, gather, act, cut};
+ghost use Rattle.dle.specs.Contract.{phaseOf, dataOf, link, toldOf, answerOf};
+ghost use Rattle.dle.specs.Steps.{Answers, Open};
+
+// The least store of a receiver: a header of 3 bytes and data of at most 255.
+const SIZE: usize = 258;
+
+// An accepted message: length 0 marks an error message with its error byte; else so much data lies in the store from place 3.
+pub struct Message {
+    pub sequence: u8,
+    pub node: u8,
+    pub length: u8,
+    pub error: u8,
+}
+
+// What a call tells: nothing, a message, or the number of a refusal.
+pub enum Event {
+    Nothing,
+    Accepted(Message),
+    Refused(u8),
+}
+
+// What a call answers: what it tells, how many bytes of the piece it used, and the state for the next call.
+pub struct Received {
+    pub event: Event,
+    pub used: usize,
+    pub state: State,
+}
+
+// What a byte makes: an event or none, and the state after it.
+struct Stepped {
+    event: Event,
+    state: State,
+}
+
+// Stores a mark of two bytes, as they are.
+fn put_mark(out: &mut [u8], at: usize, first: u8, second: u8)
+    requires { ⌜ at + 2 ≤ length (now out) ⌝ }
+    ensures { λ r. ⌜ now (out .exit) ≡ sets (now (out .entry)) at (first ∷ second ∷ []) ⌝ }
+{
+    out[at] = first;
+    out[at + 1] = second;
+}
+
+// Stores a frame at the start: the mark 10 02, the header, the data from its place on, and behind it the mark 10 03.
+fn put_frame(header: &[u8], data: &[u8], out: &mut [u8], place: usize, end: usize)
+    requires { ⌜ (place ≡ 2 + length (hide dle (now header))) × (end ≡ place + length (hide dle (now «data»))) × (end + 2 ≤ length (now out)) ⌝ }
+    ensures { λ r. ⌜ now (out .exit) ≡ sets (now (out .entry)) 0 (enclose (now (header .entry) ++ now («data» .entry))) ⌝ }
+{
+    put_mark(out, 0, 0x10, 0x02);
+    escape::dle_hide_into(header, out, 2);
+    escape::dle_hide_into(data, out, place);
+    put_mark(out, end, 0x10, 0x03);
+}
+
+// Writes a frame that may be sent, if the memory holds it: nothing is stored before its whole length is known.
+fn send(header: &[u8], data: &[u8], out: &mut [u8]) -> Answer
+    requires { ⌜ length (now header) + length (now «data») ≤ size ⌝ }
+    ensures { λ r. ⌜ (outcomeOf r, now (out .exit)) ≡ storedAt (enclose (now (header .entry) ++ now («data» .entry))) (now (out .entry)) 0 ⌝ }
+{
+    let place = 2 + escape::dle_hidden_length(header);
+    let end = place + escape::dle_hidden_length(data);
+    let total = end + 2;
+    if total <= out.len() {
+        put_frame(header, data, out, place, end);
+        Answer::Done(total)
+    } else {
+        Answer::Refused(refusal::OUTPUT_SHORT)
+    }
+}
+
+// Writes the frame of a message with data at the start of the lent memory, and answers its length.
+pub fn write(sequence: u8, node: u8, data: &[u8], out: &mut [u8]) -> Answer
+    ensures { λ r. ⌜ (outcomeOf r, now (out .exit)) ≡ writes ok frame (content sequence node (now («data» .entry))) (now (out .entry)) ⌝ }
+{
+    let n = data.len();
+    if n < 1 {
+        return Answer::Refused(refusal::UNSENDABLE);
+    }
+    if n <= 255 {
+        let header = [sequence, node, n as u8];
+        send(&header, data, out)
+    } else {
+        Answer::Refused(refusal::UNSENDABLE)
+    }
+}
+
+// Writes the frame of an error message.
+pub fn write_error(sequence: u8, node: u8, code: u8, out: &mut [u8]) -> Answer
+    ensures { λ r. ⌜ (outcomeOf r, now (out .exit)) ≡ writes ok frame (error sequence node code) (now (out .entry)) ⌝ }
+{
+    let header = [sequence, node, 0];
+    let data = [code];
+    send(&header, &data, out)
+}
+
+// Hunting: a 10 waits, any other byte is noise.
+fn hunt(state: State, byte: u8) -> Stepped
+    requires { ⌜ state .mode ≡ 0 ⌝ }
+    ensures { λ r. ⌜ Answers state (cut hunting byte) r ⌝ }
+{
+    if byte == 0x10 {
+        Stepped {
+            event: Event::Nothing,
+            state: framing::reopen(state, 1, 0, 1),
+        }
+    } else {
+        Stepped {
+            event: Event::Nothing,
+            state: framing::add_noise(state, 1),
+        }
+    }
+}
+
+// Hunting, after a 10: a 02 opens a frame, any other byte is noise with the 10.
+fn begin(state: State, byte: u8) -> Stepped
+    requires { ⌜ state .mode ≡ 1 ⌝ }
+    ensures { λ r. ⌜ Answers state (cut half byte) r ⌝ }
+{
+    if byte == 0x02 {
+        Stepped {
+            event: Event::Nothing,
+            state: framing::hold(state, 2, 0),
+        }
+    } else {
+        Stepped {
+            event: Event::Nothing,
+            state: framing::add_noise(state, 2),
+        }
+    }
+}
+
+// One more byte of the frame is gathered, unless it is one too many.
+fn gather_byte(state: State, store: &mut [u8], byte: u8) -> Stepped
+    requires { ⌜ Open state (now store) ⌝ }
+    ensures stepped { λ r. ⌜ ((wire : List ℕ) → Answers state (gather (take (state .count) (now (store .entry))) byte wire) r) ⌝ }
+    ensures stored { λ r. ⌜ ((wire : List ℕ) → now (store .exit) ≡ over (gathered (gather (take (state .count) (now (store .entry))) byte wire .0)) (now (store .entry))) ⌝ }
+{
+    let at = state.count;
+    if at < SIZE {
+        store[at] = byte;
+        Stepped {
+            event: Event::Nothing,
+            state: framing::hold(state, 2, at + 1),
+        }
+    } else {
+        Stepped {
+            event: Event::Refused(refusal::TOO_LONG),
+            state: framing::close(state),
+        }
+    }
+}
+
+// A length byte as a number of bytes.
+fn wide(length: u8) -> usize
+    ensures { λ r. ⌜ r ≡ length ⌝ }
+{
+    length as usize
+}
+
+// The end of a frame with so many gathered bytes.
+fn judge_frame(store: &[u8], count: usize) -> Event
+    requires { ⌜ (count ≤ size) × (size ≤ length (now store)) ⌝ }
+    ensures { λ r. ⌜ ((wire : List ℕ) → toldOf r ≡ told link (eventOf (some (judge (take count (now (store .entry))) wire)))) ⌝ }
+{
+    if count < 4 {
+        return Event::Refused(refusal::TOO_SHORT);
+    }
+    let stated = store[2];
+    if stated == 0 {
+        if count == 4 {
+            Event::Accepted(Message {
+                sequence: store[0],
+                node: store[1],
+                length: 0,
+                error: store[3],
+            })
+        } else {
+            Event::Refused(refusal::WRONG_LENGTH)
+        }
+    } else {
+        if wide(stated) == count - 3 {
+            Event::Accepted(Message {
+                sequence: store[0],
+                node: store[1],
+                length: stated,
+                error: 0,
+            })
+        } else {
+            Event::Refused(refusal::WRONG_LENGTH)
+        }
+    }
+}
+
+// A wire byte of an open frame, by its meaning.
+fn act_on(state: State, store: &mut [u8], meaning: Meaning) -> Stepped
+    requires { ⌜ Open state (now store) ⌝ }
+    ensures stepped { λ r. ⌜ ((wire : List ℕ) → Answers state (act (take (state .count) (now (store .entry))) wire (meaningOf meaning)) r) ⌝ }
+    ensures stored { λ r. ⌜ ((wire : List ℕ) → now (store .exit) ≡ over (gathered (act (take (state .count) (now (store .entry))) wire (meaningOf meaning) .0)) (now (store .entry))) ⌝ }
+{
+    match meaning {
+        Meaning::Byte(byte) => gather_byte(state, store, byte),
+        Meaning::Waits => Stepped {
+            event: Event::Nothing,
+            state: framing::hold(state, 3, state.count),
+        },
+        Meaning::Start => Stepped {
+            event: Event::Refused(refusal::NEW_START),
+            state: framing::reopen(state, 2, 0, 2),
+        },
+        Meaning::End => {
+            let event = judge_frame(store, state.count);
+            Stepped {
+                event: event,
+                state: framing::close(state),
+            }
+        }
+        Meaning::Wrong => Stepped {
+            event: Event::Refused(refusal::WRONG_CODE),
+            state: framing::close(state),
+        },
+    }
+}
+
+// One byte, in any mode.
+fn step(state: State, store: &mut [u8], byte: u8) -> Stepped
+    requires { ⌜ (state .count ≤ size) × (size ≤ length (now store)) ⌝ }
+    ensures stepped { λ r. ⌜ Answers state (cut (phaseOf state (now (store .entry))) byte) r ⌝ }
+    ensures stored { λ r. ⌜ now (store .exit) ≡ over (gathered (cut (phaseOf state (now (store .entry))) byte .0)) (now (store .entry)) ⌝ }
+{
+    let mode = state.mode;
+    if mode == 0 {
+        return hunt(state, byte);
+    }
+    if mode == 1 {
+        return begin(state, byte);
+    }
+    if mode == 3 {
+        let meaning = escape::dle_after(byte);
+        return act_on(state, store, meaning);
+    }
+    let meaning = escape::dle_plain(byte);
+    act_on(state, store, meaning)
+}
+
+// Whether there is an event.
+fn made(event: Event) -> bool
+    ensures { λ r. ⌜ r ≡ isEvent (toldOf event) ⌝ }
+{
+    match event {
+        Event::Nothing => false,
+        Event::Accepted(_) => true,
+        Event::Refused(_) => true,
+    }
+}
+
+// The bytes of a piece, up to and including the first that makes an event.
+fn scan(state: State, store: &mut [u8], piece: &[u8]) -> Received
+    requires { ⌜ (state .count ≤ size) × (size ≤ length (now store)) ⌝ }
+    ensures { λ r. ⌜ answerOf r (now (store .exit)) ≡ answered link (feed (stepOn link) (state, now (store .entry)) (now (piece .entry))) ⌝ }
+{
+    let mut current = state;
+    let mut i = 0;
+    while i < piece.len() {
+        let s = step(current, store, piece[i]);
+        let next = s.state;
+        current = next;
+        i += 1;
+        let event = s.event;
+        if made(event) {
+            return Received {
+                event: event,
+                used: i,
+                state: current,
+            };
+        }
+    }
+    Received {
+        event: Event::Nothing,
+        used: i,
+        state: current,
+    }
+}
+
+// A call of the receiver: uses the bytes of the piece up to and including the first that makes an event, else all.
+pub fn receive(state: State, store: &mut [u8], piece: &[u8]) -> Received
+    ensures { λ r. ⌜ answerOf r (now (store .exit)) ≡ answer link (state, now (store .entry)) (now (piece .entry)) ⌝ }
+{
+    if framing::is_known(state, 4, 2, SIZE) {
+        if SIZE <= store.len() {
+            scan(state, store, piece)
+        } else {
+            Received {
+                event: Event::Refused(refusal::STORE_SHORT),
+                used: 0,
+                state: state,
+            }
+        }
+    } else {
+        Received {
+            event: Event::Refused(refusal::UNKNOWN_STATE),
+            used: 0,
+            state: state,
+        }
+    }
+}
+
+// The data of a message, as a part of the store; an empty part where it does not lie in the store.
+pub fn data(store: &[u8], message: Message) -> &[u8]
+    ensures { λ r. ⌜ now r ≡ dataOf (now (store .entry)) message ⌝ }
+{
+    let end = 3 + wide(message.length);
+    if end <= store.len() {
+        &store[3..end]
+    } else {
+        &store[..0]
+    }
+}
