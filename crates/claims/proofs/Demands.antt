@@ -1,0 +1,26 @@
+-- Demands 2 and 3, from the theorems of each link.
+use Rattle.framing.specs.Claims as Claims
+use Rattle.checksum.proofs.CheckValue.{crc16-detects, crc32-detects}
+use Rattle.pcs.proofs.Theorems as Pcs
+use Rattle.mdu.proofs.Theorems as Mdu
+use Rattle.dle.proofs.Theorems as Dle
+use Rattle.expansion.proofs.Theorems as Expansion
+use Rattle.claims.specs.Links.{Which, pcs, mdu, dle, expansion, linkOf}
+use Rattle.claims.specs.Demand2.{Demand2}
+use Rattle.claims.specs.Demand3.{Demand3}
+
+pub demand2 : Demand2
+demand2 pcs = record { reads-back = Pcs.reads-back; canonical = Pcs.canonical; cut-anywhere = Pcs.cut-anywhere; accounted = Pcs.accounted }
+demand2 mdu = record { reads-back = Mdu.reads-back; canonical = Mdu.canonical; cut-anywhere = Mdu.cut-anywhere; accounted = Mdu.accounted }
+demand2 dle = record { reads-back = Dle.reads-back; canonical = Dle.canonical; cut-anywhere = Dle.cut-anywhere; accounted = Dle.accounted }
+demand2 expansion =
+    record { reads-back = Expansion.reads-back; canonical = Expansion.canonical; cut-anywhere = Expansion.cut-anywhere; accounted = Expansion.accounted }
+
+pub demand3 : Demand3
+demand3 = record { calls = calls; mdu-check = crc16-detects; expansion-check = crc32-detects }
+  where
+    calls : (w : Which) → Claims.Demand3 (linkOf w)
+    calls pcs = Pcs.demand3
+    calls mdu = Mdu.demand3
+    calls dle = Dle.demand3
+    calls expansion = Expansion.demand3

@@ -1,0 +1,14 @@
+-- Demand 2, over all four links: what is written is the frame and reads back; what is read, however it is cut, is what the rules say of the uncut
+-- stream; what is accepted is the writer's frame; every byte is accounted for.
+use Rattle.framing.specs.Link.{Link}
+use Rattle.framing.specs.Claims.{ReadsBack, Canonical, CutAnywhere, Accounted}
+use Rattle.claims.specs.Links.{Which, linkOf}
+
+pub record Demand2Of (L : Link) : Type 0 where
+  pub reads-back : ReadsBack L
+  pub canonical : Canonical L
+  pub cut-anywhere : CutAnywhere L
+  pub accounted : Accounted L
+
+abbrev pub Demand2 : Type 0
+Demand2 = (w : Which) → Demand2Of (linkOf w)

@@ -1,0 +1,66 @@
+-- The twelve examples that the papers mark to be proved, as one statement over one list of rows.
+use Prim.Native.Nat.{ℕ}
+use mathlib.Core.Path.{_≡_}
+use mathlib.Core.List.{List, [], _∷_, _++_}
+use mathlib.Core.Option.{Option, some}
+use lib.IntN.{ℤ, negsuc}
+use Rattle.framing.specs.Answer.{Outcome, done}
+use Rattle.packing.specs.Unpacked.{unpacked}
+use Rattle.checksum.specs.Sum.{sumOf}
+use Rattle.checksum.specs.Crc.{crc16Of}
+use Rattle.escape.specs.Code.{hide}
+use Rattle.escape.specs.Expansion.{expansion}
+use Rattle.dle.specs.Frame.{content, frame}
+use Rattle.record.specs.Fares.{unsigned, signed}
+use Rattle.record.specs.Answers.{reading}
+
+-- what is worked out, and what the papers print for it
+pub record Row : Type 1 where
+  pub Value : Type 0
+  pub worked : Value
+  pub printed : Value
+
+abbrev pub Holds : List Row → Type 0
+Holds [] = Unit
+Holds (r ∷ rows) = (r .worked ≡ r .printed) × Holds rows
+
+-- the bytes that a PCS sum covers: the query, the display frame and the acknowledgement of document 000
+abbrev pub query : List ℕ
+query = 2 ∷ 250 ∷ 4 ∷ 4 ∷ 128 ∷ 11 ∷ 1 ∷ 1 ∷ 67 ∷ 69 ∷ 76 ∷ 68 ∷ 76 ∷ 128 ∷ 128 ∷ 128 ∷ 128 ∷ 1 ∷ 128 ∷ []
+
+abbrev pub display : List ℕ
+display = 101 ∷ 250 ∷ 5 ∷ 2 ∷ 128 ∷ 12 ∷ 1 ∷ 1 ∷ 67 ∷ 76 ∷ 67 ∷ 83 ∷ 72 ∷ 49 ∷ 50 ∷ 128 ∷ 51 ∷ 52 ∷ 53 ∷ 128 ∷ []
+
+abbrev pub acknowledgement : List ℕ
+acknowledgement = 250 ∷ 101 ∷ 6 ∷ 2 ∷ 128 ∷ 128 ∷ 1 ∷ 1 ∷ []
+
+abbrev pub rows : List Row
+rows =
+    record { Value = ℕ; worked = sumOf query; printed = 118 }
+    ∷ record { Value = ℕ; worked = sumOf display; printed = 96 }
+    ∷ record { Value = ℕ; worked = sumOf acknowledgement; printed = 105 }
+    ∷ record { Value = ℕ; worked = sumOf (251 ∷ []); printed = 123 }
+    ∷ record { Value = ℕ; worked = sumOf []; printed = 128 }
+    ∷ record {
+      Value = Option (List ℕ);
+      worked = unpacked (42 ∷ 87 ∷ 81 ∷ 81 ∷ 128 ∷ 128 ∷ 128 ∷ 108 ∷ []);
+      printed = some (0xAA ∷ 0xD7 ∷ 0x51 ∷ 0xD1 ∷ 0x80 ∷ 0x00 ∷ 0x00 ∷ []);
+    }
+    ∷ record { Value = ℕ; worked = crc16Of (0x31 ∷ []); printed = 0xD4C1 }
+    ∷ record { Value = ℕ; worked = crc16Of (0xB1 ∷ 0x00 ∷ 0x04 ∷ 0x47 ∷ 0xBA ∷ []); printed = 0x988F }
+    ∷ record {
+      Value = List ℕ;
+      worked = frame (content 0x10 0x03 (0x64 ∷ 0x96 ∷ []));
+      printed = 0x10 ∷ 0x02 ∷ 0x10 ∷ 0x10 ∷ 0x03 ∷ 0x02 ∷ 0x64 ∷ 0x96 ∷ 0x10 ∷ 0x03 ∷ [];
+    }
+    ∷ record {
+      Value = List ℕ;
+      worked = hide expansion (0xFD ∷ 0xFE ∷ 0xFF ∷ []);
+      printed = 0xFF ∷ 0x02 ∷ 0xFF ∷ 0x01 ∷ 0xFF ∷ 0x00 ∷ [];
+    }
+    ∷ record { Value = Outcome ℕ; worked = reading unsigned (0x02 ∷ 0x00 ∷ 0x00 ∷ 0x01 ∷ 0x00 ∷ 0x64 ∷ 0x96 ∷ []) 0; printed = done 38500 }
+    ∷ record { Value = Outcome ℤ; worked = reading signed (0x03 ∷ 0x00 ∷ 0x00 ∷ 0x01 ∷ 0x00 ∷ 0x64 ∷ 0x96 ∷ []) 0; printed = done (negsuc 27035) }
+    ∷ []
+
+abbrev pub Examples : Type 0
+Examples = Holds rows

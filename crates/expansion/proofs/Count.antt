@@ -1,0 +1,49 @@
+-- The count of gathered bytes stays within the link's size, for every state that does not give 12, whatever its store holds.
+use Prim.Native.Nat.{ℕ, _≤_}
+use mathlib.Core.Path.{_≡_, sym, subst}
+use mathlib.Core.Bool.{Bool, true, cond}
+use mathlib.Core.List.{List, [], _∷_, _++_}
+use mathlib.Core.Option.{Option}
+use native.Mathlib.Omega.{arith}
+use lib.Dec.{eqb, leb, ltb}
+use lib.ListN.{length, length-append, length-take}
+use borrow.Author.Tests.{eqb-true, leb-true}
+use Rattle.runs.proofs.Cases.{by-eqb, by-ltb, and-both}
+use Rattle.framing.specs.Segment.{Segment}
+use Rattle.framing.specs.State.{knownState}
+use Rattle.framing.specs.declared.State.{State}
+use Rattle.escape.specs.Code.{Meaning, byte, waits, start, end, wrong, meaning}
+use Rattle.escape.specs.Expansion.{expansion}
+use Rattle.expansion.specs.Frame.{Message}
+use Rattle.expansion.specs.Rules.{Phase, hunting, inside, size, gathered, held, act, cut}
+use Rattle.expansion.specs.Contract.{phaseOf}
+use Rattle.expansion.specs.Steps.{Answers}
+use Rattle.expansion.specs.declared.Stepped.{Stepped}
+
+pub known-count : (s : State) → knownState 3 1 size s ≡ true → s .count ≤ size
+known-count s h =
+    by-ltb (λ (t : Bool). t ≡ true → s .count ≤ size) (s .mode) 1 (λ _ e. let z = eqb-true (s .count) 0 e in omega arith) (λ _ e. leb-true (s .count) size e)
+    (and-both (ltb (s .mode) 3) (cond (ltb (s .mode) 1) (eqb (s .count) 0) (leb (s .count) size)) h .1)
+
+abbrev Sized : Phase × Option (Segment Message) → Type 0
+Sized r = length (gathered (r .0)) ≤ size
+
+act-sized : (g before wire : List ℕ) (m : Meaning) → length g ≤ size → Sized (act g before wire m)
+act-sized g before wire (byte b) h = by-ltb Sized (length g) size (λ l. simp length-append (omega arith)) (λ _. omega arith)
+act-sized g before wire waits h = h
+act-sized g before wire start h = omega arith
+act-sized g before wire end h = omega arith
+act-sized g before wire wrong h = omega arith
+
+cut-sized : (p : Phase) (b : ℕ) → length (gathered p) ≤ size → Sized (cut p b)
+cut-sized hunting b h = by-eqb Sized b 0xFD (λ _. omega arith) (λ _. omega arith)
+cut-sized (inside w g) b h = act-sized g (held (inside w g)) (held (inside w g) ++ (b ∷ [])) (meaning expansion w b) h
+
+phase-sized : (s : State) (store : List ℕ) → s .count ≤ size → length (gathered (phaseOf s store)) ≤ size
+phase-sized s store h =
+    by-eqb (λ (p : Phase). length (gathered p) ≤ size) (s .mode) 0 (λ _. omega arith) (λ _. simp length-take (omega arith))
+
+pub count-next : (s : State) (store : List ℕ) (b : ℕ) (r : Stepped) (after : List ℕ) → Answers s store (cut (phaseOf s store) b) r after → s .count ≤ size
+    → r .state .count ≤ size
+count-next s store b r after a h =
+    subst (λ (x : State). x .count ≤ size) (sym (a .state)) (cut-sized (phaseOf s store) b (phase-sized s store h))

@@ -1,0 +1,88 @@
+-- The store after a byte, and what the rules read in it at the end of a frame.
+use Prim.Native.Nat.{ℕ, suc, _+_, _-_, _≤_, _<_}
+use mathlib.Core.Path.{_≡_, refl, ap, sym, _∙_}
+use mathlib.Core.Bool.{true, false, _&&_}
+use mathlib.Core.List.{List, [], _∷_, _++_}
+use mathlib.Core.Option.{some}
+use native.Mathlib.Numerals.{add-one}
+use native.Mathlib.Omega.{arith}
+use lib.Dec.{eqb, leb}
+use lib.ListN.{length, getD, take, drop, set, length-append, take-append-drop}
+use lib.Seq.{length-take-le, set-split, append-snoc, take-take, getD-take, take-add, drop-at}
+use borrow.Author.Tests.{le-ltb}
+use Rattle.runs.specs.Runs.{over}
+use Rattle.runs.specs.Number.{number}
+use Rattle.runs.proofs.Cases.{by-test, by-ltb}
+use Rattle.framing.specs.Segment.{Segment, refused, accepted, eventOf, noiseAfter}
+use Rattle.framing.specs.Link.{Told, told, numbers}
+use Rattle.checksum.specs.Crc.{crc32Of}
+use Rattle.expansion.specs.Frame.{Message, kindOk}
+use Rattle.expansion.specs.Rules.{checkRight, fieldsOk, messageIn, judge}
+use Rattle.expansion.specs.Contract.{numbersOf, link}
+use Rattle.expansion.specs.declared.Message.{Message as Numbers}
+use Rattle.expansion.proofs.Judge.{payload-length}
+
+module _ (store : List ℕ) (k : ℕ) where
+  pub same-store : k ≤ length store → store ≡ over (take k store) store
+  same-store h = rw (length-take-le k store h) (sym (take-append-drop k store))
+
+  pub more-store : (b : ℕ) → k < length store → set store k b ≡ over (take k store ++ (b ∷ [])) store
+  more-store b h =
+      let n : length (take k store ++ (b ∷ [])) ≡ k + 1 = length-append (take k store) (b ∷ []) ∙ rw (length-take-le k store (omega arith)) in
+      rw (n, add-one) (set-split store k b h ∙ sym (append-snoc (take k store) b (drop (suc k) store)))
+
+-- what is told of a segment
+abbrev pub toldSegment : Segment Message → Told Numbers
+toldSegment s = told link (eventOf (some s))
+
+-- what the rules read in k gathered bytes at the end of a frame, in the store
+module _ (store : List ℕ) (k : ℕ) (high : k ≤ length store) where
+  long : length (take k store) ≡ k
+  long = length-take-le k store high
+
+  pub check-here : 4 ≤ k → checkRight (take k store) ≡ eqb (number (take 4 (drop (k - 4) store))) (crc32Of (take (k - 4) store))
+  check-here low =
+      let n : k - 4 + 4 ≡ k = omega arith in
+      let sent : drop (k - 4) (take k store) ≡ take 4 (drop (k - 4) store) =
+      ap (λ (i : ℕ). drop (k - 4) (take i store)) (sym n)
+      ∙ ap (drop (k - 4)) (take-add (k - 4) 4 store)
+      ∙ drop-at (take (k - 4) store) (take 4 (drop (k - 4) store)) (k - 4) (length-take-le (k - 4) store (omega arith)) in
+      rw (long, sent, take-take (k - 4) k store (omega arith))
+
+  module _ (low : 8 ≤ k) where
+    pub fields-here : fieldsOk (take k store) ≡ kindOk (getD store 1 0) (k - 8) && leb (getD store 2 0) 3
+    fields-here = rw (long, getD-take k store 1 0 (omega arith), getD-take k store 2 0 (omega arith))
+
+    numbers-here : numbersOf (messageIn (take k store))
+        ≡ record { id = getD store 0 0; kind = getD store 1 0; repeat = getD store 2 0; address = getD store 3 0; length = k - 8 }
+    numbers-here =
+        let n : length (messageIn (take k store) .payload) ≡ k - 8 = payload-length (take k store) (omega (arith, long)) ∙ rw long in
+        λ i. record {
+          id = getD-take k store 0 0 (omega arith) i;
+          kind = getD-take k store 1 0 (omega arith) i;
+          repeat = getD-take k store 2 0 (omega arith) i;
+          address = getD-take k store 3 0 (omega arith) i;
+          length = n i;
+        }
+
+    module _ (wire : List ℕ) where
+      pub judge-check : checkRight (take k store) ≡ false → judge (take k store) wire ≡ refused 8 wire
+      judge-check c = rw (le-ltb (length (take k store)) 8 (omega (arith, long)), c)
+
+      module _ (c : checkRight (take k store) ≡ true) where
+        pub judge-fields : fieldsOk (take k store) ≡ false → judge (take k store) wire ≡ refused 9 wire
+        judge-fields f = rw (le-ltb (length (take k store)) 8 (omega (arith, long)), c, f)
+
+        pub judge-accepts : fieldsOk (take k store) ≡ true → told link (eventOf (some (judge (take k store) wire)))
+            ≡ numbers (record { id = getD store 0 0; kind = getD store 1 0; repeat = getD store 2 0; address = getD store 3 0; length = k - 8 })
+        judge-accepts f =
+            let e : judge (take k store) wire ≡ accepted (messageIn (take k store)) = rw (le-ltb (length (take k store)) 8 (omega (arith, long)), c, f) in
+            ap toldSegment e ∙ ap numbers numbers-here
+
+-- the end of a frame is no noise
+pub judge-noise : (g wire : List ℕ) (n : ℕ) → noiseAfter (some (judge g wire)) n ≡ n
+judge-noise g wire n =
+    by-ltb P (length g) 8 (λ _. refl) (λ _. by-test P (checkRight g) (λ _. by-test P (fieldsOk g) (λ _. refl) (λ _. refl)) (λ _. refl))
+  where
+    P : Segment Message → Type 0
+    P s = noiseAfter (some s) n ≡ n

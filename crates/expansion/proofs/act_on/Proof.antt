@@ -1,0 +1,103 @@
+use borrow.Author.Tests.{ne-eqb}
+use native.Mathlib.Omega.{arith}
+use mathlib.Core.Path.{refl}
+use lib.ListN.{take}
+use lib.Seq.{length-take-le}
+use Rattle.expansion.proofs.Hidden.{hide-nil}
+use Rattle.expansion.proofs.Store.{same-store, judge-noise}
+use borrow.Author.Needs.{needs}
+use Rattle.expansion.proofs.act_on.Statement.{statement}
+use Rattle.expansion.proofs.act_on.Tie as tie
+
+enum-known-meaning : tie.Need-enum-known-meaning
+enum-known-meaning c = search needs
+
+gather-byte-requires : tie.Need-gather-byte-requires
+gather-byte-requires c κs = search needs
+
+enum-told : tie.Need-enum-told
+enum-told c = search needs
+
+hold-requires : tie.Need-hold-requires
+hold-requires c κs = search needs
+
+enum-told-2 : tie.Need-enum-told-2
+enum-told-2 c = search needs
+
+reopen-requires : tie.Need-reopen-requires
+reopen-requires c κs = search needs
+
+enum-told-3 : tie.Need-enum-told-3
+enum-told-3 c = search needs
+
+judge-frame-requires : tie.Need-judge-frame-requires
+judge-frame-requires c κs = search needs
+
+close-requires : tie.Need-close-requires
+close-requires c κs = search needs
+
+enum-told-4 : tie.Need-enum-told-4
+enum-told-4 c = search needs
+
+close-requires-2 : tie.Need-close-requires-2
+close-requires-2 c κs = search needs
+
+same-length : tie.Need-same-length
+same-length c = search needs
+
+returns : tie.Need-returns
+returns c =
+    let e = c .before .before .before .before .before .meaning .given .1 in
+    λ before wire. rw e (c .before .before .gather-byte .ensures wire)
+
+returns-2 : tie.Need-returns-2
+returns-2 c =
+    let s = c .before .before .before .before in
+    let a = s .args in
+    let e = c .before .enum-told .given .1 in
+    let l = length-take-le (a .state .count) (a .store .now) (omega arith) in
+    let m = ne-eqb (a .state .mode) 0 (s .pre .0) in
+    λ before wire. rw (e, c .hold .ensures) (record { tells = refl; state = rw (m, l); stored = same-store (a .store .now) (a .state .count) (omega arith) })
+
+returns-3 : tie.Need-returns-3
+returns-3 c =
+    let e = c .before .enum-told2 .given .1 in
+    λ before wire. rw (e, c .reopen .ensures) (record { tells = refl; state = rw hide-nil; stored = refl })
+
+same-length-2 : tie.Need-same-length-2
+same-length-2 c = search needs
+
+returns-4 : tie.Need-returns-4
+returns-4 c =
+    let a = c .before .before .before .before .before .before .args in
+    let e = c .before .before .before .enum-told3 .given .1 in
+    λ before wire. rw (e, c .close .ensures)
+    (record { tells = c .before .judge-frame .ensures wire; state = rw (judge-noise (take (a .state .count) (a .store .now)) wire (a .state .noise)); stored = refl })
+
+returns-5 : tie.Need-returns-5
+returns-5 c =
+    let e = c .before .enum-told4 .given .1 in
+    λ before wire. rw (e, c .close2 .ensures) (record { tells = refl; state = refl; stored = refl })
+
+pub act-on-spec : {M : Type 1} → statement M
+act-on-spec =
+    tie.close
+    (tie.spec
+    enum-known-meaning
+    gather-byte-requires
+    enum-told
+    hold-requires
+    enum-told-2
+    reopen-requires
+    enum-told-3
+    judge-frame-requires
+    close-requires
+    enum-told-4
+    close-requires-2
+    same-length
+    returns
+    returns-2
+    returns-3
+    same-length-2
+    returns-4
+    returns-5)

@@ -1,0 +1,70 @@
+use native.Mathlib.Omega.{arith}
+use Rattle.expansion.proofs.Laid.{parts-length, parts-short}
+use borrow.Author.Needs.{needs}
+use Rattle.expansion.proofs.frame_length.Statement.{statement}
+use Rattle.expansion.proofs.frame_length.Tie as tie
+
+expansion-hidden-length-requires : tie.Need-expansion-hidden-length-requires
+expansion-hidden-length-requires c κs = search needs
+
+expansion-hidden-length-requires-2 : tie.Need-expansion-hidden-length-requires-2
+expansion-hidden-length-requires-2 c κs = search needs
+
+expansion-hidden-length-requires-3 : tie.Need-expansion-hidden-length-requires-3
+expansion-hidden-length-requires-3 c κs = search needs
+
+add-result : tie.Need-add-result
+add-result c =
+    let s = c .before .before .before .before .before .before in
+    let short = parts-short (s .args .header .now) (s .args .«data» .now) (s .args .trailer .now) (s .pre) in
+    omega (
+      arith,
+      c .before .before .expansion-hidden-length .ensures,
+      c .before .expansion-hidden-length2 .ensures,
+      c .expansion-hidden-length3 .ensures,
+    )
+
+add-result-2 : tie.Need-add-result-2
+add-result-2 c =
+    let s = c .before .before .before .before .before .before in
+    let short = parts-short (s .args .header .now) (s .args .«data» .now) (s .args .trailer .now) (s .pre) in
+    omega (
+      arith,
+      c .before .before .expansion-hidden-length .ensures,
+      c .before .expansion-hidden-length2 .ensures,
+      c .expansion-hidden-length3 .ensures,
+    )
+
+add-result-3 : tie.Need-add-result-3
+add-result-3 c =
+    let s = c .before .before .before .before .before .before in
+    let short = parts-short (s .args .header .now) (s .args .«data» .now) (s .args .trailer .now) (s .pre) in
+    omega (
+      arith,
+      c .before .before .expansion-hidden-length .ensures,
+      c .before .expansion-hidden-length2 .ensures,
+      c .expansion-hidden-length3 .ensures,
+    )
+
+returns : tie.Need-returns
+returns c =
+    let a = c .before .before .before .before .before .before .args in
+    omega (
+      arith,
+      parts-length (a .header .now) (a .«data» .now) (a .trailer .now),
+      c .before .before .expansion-hidden-length .ensures,
+      c .before .expansion-hidden-length2 .ensures,
+      c .expansion-hidden-length3 .ensures,
+    )
+
+pub frame-length-spec : {M : Type 1} → statement M
+frame-length-spec =
+    tie.close
+    (tie.spec
+    expansion-hidden-length-requires
+    expansion-hidden-length-requires-2
+    expansion-hidden-length-requires-3
+    add-result
+    add-result-2
+    add-result-3
+    returns)

@@ -1,0 +1,25 @@
+use borrow.Author.Tests.{eq-eqb, ne-eqb}
+use Rattle.expansion.proofs.Hidden.{hide-nil}
+use borrow.Author.Needs.{needs}
+use Rattle.expansion.proofs.hunt.Statement.{statement}
+use Rattle.expansion.proofs.hunt.Tie as tie
+
+reopen-requires : tie.Need-reopen-requires
+reopen-requires c κs = search needs
+
+add-noise-requires : tie.Need-add-noise-requires
+add-noise-requires c κs = search needs
+
+returns : tie.Need-returns
+returns c =
+    let t = eq-eqb _ _ (c .before .if1 .taken) in
+    let m = eq-eqb _ _ (c .before .before .pre) in
+    λ store. record { tells = simp t; state = simp (t, m, hide-nil, c .reopen .ensures); stored = simp t }
+
+returns-2 : tie.Need-returns-2
+returns-2 c =
+    let t = ne-eqb _ _ (c .before .if1 .left) in
+    λ store. record { tells = simp t; state = simp (t, c .add-noise .ensures); stored = simp t }
+
+pub hunt-spec : {M : Type 1} → statement M
+hunt-spec = tie.close (tie.spec reopen-requires add-noise-requires returns returns-2)

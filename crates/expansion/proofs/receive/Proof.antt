@@ -1,0 +1,32 @@
+use borrow.Author.Tests.{le-leb, lt-leb}
+use mathlib.Core.Path.{sym, _∙_}
+use Rattle.expansion.proofs.Count.{known-count}
+use borrow.Author.Needs.{needs}
+use Rattle.expansion.proofs.receive.Statement.{statement}
+use Rattle.expansion.proofs.receive.Tie as tie
+
+is-known-requires : tie.Need-is-known-requires
+is-known-requires c κs = search needs
+
+scan-requires : tie.Need-scan-requires
+scan-requires c κs =
+    let v = c .before .before .before in
+    record { count = known-count (v .before .before .before .args .state) (sym (v .is-known .ensures) ∙ c .before .before .if1 .taken); room = c .before .if2 .taken }
+
+same-length : tie.Need-same-length
+same-length c = search needs
+
+returns : tie.Need-returns
+returns c =
+    let t = c .before .before .before .before .before in
+    simp (sym (t .before .is-known .ensures) ∙ t .if1 .taken, le-leb _ _ (c .before .before .before .before .if2 .taken)) (c .before .before .scan .ensures)
+
+returns-2 : tie.Need-returns-2
+returns-2 c = simp (sym (c .before .before .is-known .ensures) ∙ c .before .if1 .taken, lt-leb _ _ (c .if2 .left))
+
+returns-3 : tie.Need-returns-3
+returns-3 c = simp (sym (c .before .is-known .ensures) ∙ c .if1 .left)
+
+pub receive-spec : {M : Type 1} → statement M
+receive-spec =
+    tie.close (tie.spec is-known-requires scan-requires same-length returns returns-2 returns-3)

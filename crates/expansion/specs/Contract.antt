@@ -1,0 +1,74 @@
+-- What the functions of the expansion link answer and leave, for every input.
+use Prim.Native.Nat.{ℕ, _+_}
+use mathlib.Core.Bool.{cond}
+use mathlib.Core.List.{List, []}
+use lib.ListN.{length, take, drop}
+use lib.Dec.{leb, eqb}
+use Rattle.framing.specs.State.{freshState, knownState, stateAfter}
+use Rattle.framing.specs.Link.{Link, Lent, Told, nothing, numbers, number}
+use Rattle.framing.specs.declared.State.{State}
+use Rattle.expansion.specs.Frame.{Typed, ok, frame}
+use Rattle.expansion.specs.Frame as Frame
+use Rattle.expansion.specs.Rules.{Phase, hunting, inside, size, gathered, held, cut}
+use Rattle.expansion.specs.declared.Message.{Message}
+use Rattle.expansion.specs.declared.Event.{Event}
+use Rattle.expansion.specs.declared.Event.the-variants.{Nothing, Accepted, Refused}
+use Rattle.expansion.specs.declared.Received.{Received}
+
+-- the number of each phase: 0 hunting, 1 open, 2 open after an FF
+abbrev pub modeOf : Phase → ℕ
+modeOf hunting = 0
+modeOf (inside w g) = cond w 2 1
+
+-- and the phase of a state: the gathered bytes are the first of the store
+abbrev pub phaseOf : State → List ℕ → Phase
+phaseOf s store = cond (eqb (s .mode) 0) hunting (inside (eqb (s .mode) 2) (take (s .count) store))
+
+-- the numbers told of a message
+abbrev pub numbersOf : Frame.Message → Message
+numbersOf m = record { id = m .id; kind = m .kind; repeat = m .repeat; address = m .address; length = length (m .payload) }
+
+-- the data of a message: the part of the store from place 4, or nothing where that does not lie in the store
+abbrev pub dataOf : List ℕ → Message → List ℕ
+dataOf store m = cond (leb (4 + m .length) (length store)) (take (m .length) (drop 4 store)) []
+
+-- the message that a caller has of its numbers and the store
+abbrev pub messageOf : List ℕ → Message → Frame.Message
+messageOf store m = record { id = m .id; kind = m .kind; repeat = m .repeat; address = m .address; payload = dataOf store m }
+
+-- the link: three modes, of which the first hunts
+abbrev pub link : Link
+link =
+    record {
+      Message = Frame.Message;
+      Typed = Typed;
+      ok = ok;
+      frame = frame;
+      Phase = Phase;
+      hunting = hunting;
+      cut = cut;
+      gathered = gathered;
+      held = held;
+      size = size;
+      State = State;
+      fresh = freshState;
+      known = knownState 3 1 size;
+      noise = λ s. s .noise;
+      «open» = λ s. s .«open»;
+      phaseOf = phaseOf;
+      stateAfter = stateAfter modeOf gathered held;
+      front = λ p b. gathered (cut p b .0);
+      Numbers = Message;
+      numbersOf = numbersOf;
+      messageOf = messageOf;
+    }
+
+-- each case of the receiver's answer
+abbrev pub toldOf : Event → Told Message
+toldOf Nothing = nothing
+toldOf (Accepted m) = numbers m
+toldOf (Refused n) = number n
+
+-- an answer with the store after the call
+abbrev pub answerOf : Received → List ℕ → Told Message × ℕ × Lent link
+answerOf r store = (toldOf (r .event), r .used, (r .state, store))

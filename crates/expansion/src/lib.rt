@@ -1,0 +1,342 @@
+// The expansion link of gate boards: writer and receiver.
+use escape::Meaning;
+use framing::Answer;
+use framing::State;
+use framing::refusal;
+ghost use mathlib.Core.Path.{_≡_};
+ghost use mathlib.Core.List.{List, _++_};
+ghost use mathlib.Core.Option.{some};
+ghost use mathlib.Core.Bool.{_&&_};
+ghost use Prim.Native.Nat.{ℕ, _+_, _≤_};
+ghost use lib.Dec.{eqb, leb};
+ghost use lib.ListN.{length, take};
+ghost use lib.Seq.{sets};
+ghost use Rattle.framing.specs.Answer.{outcomeOf, storedAt};
+ghost use Rattle.framing.specs.Writer.{writes};
+ghost use Rattle.framing.specs.Receiver.{feed};
+ghost use Rattle.framing.specs.Segment.{eventOf};
+ghost use Rattle.framing.specs.Link.{isEvent, told, stepOn, answered, answer};
+ghost use Rattle.escape.specs.Code.{meaningOf, meaning, hide};
+ghost use Rattle.escape.specs.Expansion as Escape;
+ghost use Rattle.expansion.specs.Frame.{kindOk, ok, enclose, frame};
+ghost use Rattle.expansion.specs.Rules.{hunting, size, checkRight, judge, gather, act, cut};
+ghost use Rattle.expansion.specs.Contract.{phaseOf, dataOf, link, toldOf, answerOf};
+ghost use Rattle.expansion.specs.Steps.{Answers, Room};
+
+// The least store of a receiver: a header of 4 bytes, at most 1,024 of data, a CRC of 4.
+const SIZE: usize = 1032;
+
+// An accepted message; its data lies in the store from place 4.
+pub struct Message {
+    pub id: u8,
+    pub kind: u8,
+    pub repeat: u8,
+    pub address: u8,
+    pub length: usize,
+}
+
+pub enum Event {
+    Nothing,
+    Accepted(Message),
+    Refused(u8),
+}
+
+pub struct Received {
+    pub event: Event,
+    pub used: usize,
+    pub state: State,
+}
+
+// What a byte makes: an event or none, and the state after it.
+struct Stepped {
+    event: Event,
+    state: State,
+}
+
+// Whether a message of this type may carry so much data.
+fn kind_ok(kind: u8, length: usize) -> bool
+    ensures { λ r. ⌜ r ≡ kindOk kind length ⌝ }
+{
+    kind == 0 || (kind <= 2 && length == 0)
+}
+
+// Whether the fields of a message with so much data are allowed.
+fn fields_ok(kind: u8, repeat: u8, length: usize) -> bool
+    ensures { λ r. ⌜ r ≡ (kindOk kind length && leb repeat 3) ⌝ }
+{
+    kind_ok(kind, length) && repeat <= 3
+}
+
+// Whether a message may be sent.
+fn is_sendable(kind: u8, repeat: u8, length: usize) -> bool
+    ensures { λ r. ⌜ r ≡ (kindOk kind length && (leb repeat 3 && leb length 1024)) ⌝ }
+{
+    fields_ok(kind, repeat, length) && length <= 1024
+}
+
+// Stores bytes hidden from a place on, and answers the place behind them.
+fn put_hidden(bytes: &[u8], out: &mut [u8], at: usize) -> usize
+    requires { ⌜ at + length (hide Escape.expansion (now bytes)) ≤ length (now out) ⌝ }
+    ensures next { λ r. ⌜ r ≡ at + length (hide Escape.expansion (now (bytes .entry))) ⌝ }
+    ensures put { λ r. ⌜ now (out .exit) ≡ sets (now (out .entry)) at (hide Escape.expansion (now (bytes .entry))) ⌝ }
+{
+    let answer = escape::expansion_hide_into(bytes, out, at);
+    match answer {
+        Answer::Done(n) => at + n,
+        Answer::Refused(_) => at, // never: they fit
+    }
+}
+
+// Stores a frame at the start.
+fn put_frame(header: &[u8], data: &[u8], trailer: &[u8], out: &mut [u8])
+    requires { ⌜ length (enclose (now header ++ (now «data» ++ now trailer))) ≤ length (now out) ⌝ }
+    ensures { λ r. ⌜ now (out .exit) ≡ sets (now (out .entry)) 0 (enclose (now (header .entry) ++ (now («data» .entry) ++ now (trailer .entry)))) ⌝ }
+{
+    out[0] = 0xFD;
+    let a = put_hidden(header, out, 1);
+    let b = put_hidden(data, out, a);
+    let c = put_hidden(trailer, out, b);
+    out[c] = 0xFE;
+}
+
+// How many wire bytes a frame takes.
+fn frame_length(header: &[u8], data: &[u8], trailer: &[u8]) -> usize
+    requires { ⌜ length (now header ++ (now «data» ++ now trailer)) ≤ size ⌝ }
+    ensures { λ r. ⌜ r ≡ length (enclose (now (header .entry) ++ (now («data» .entry) ++ now (trailer .entry)))) ⌝ }
+{
+    let a = escape::expansion_hidden_length(header);
+    let b = escape::expansion_hidden_length(data);
+    let c = escape::expansion_hidden_length(trailer);
+    2 + a + b + c
+}
+
+// Stores a frame at the start, if it fits.
+fn send(header: &[u8], data: &[u8], trailer: &[u8], out: &mut [u8]) -> Answer
+    requires { ⌜ length (now header ++ (now «data» ++ now trailer)) ≤ size ⌝ }
+    ensures { λ r. ⌜ (outcomeOf r, now (out .exit)) ≡ storedAt (enclose (now (header .entry) ++ (now («data» .entry) ++ now (trailer .entry)))) (now (out .entry)) 0 ⌝ }
+{
+    let n = frame_length(header, data, trailer);
+    if n <= out.len() {
+        put_frame(header, data, trailer, out);
+        Answer::Done(n)
+    } else {
+        Answer::Refused(refusal::OUTPUT_SHORT)
+    }
+}
+
+// Writes the frame of a message at the start of the lent memory, and answers its length.
+pub fn write(id: u8, kind: u8, repeat: u8, address: u8, data: &[u8], out: &mut [u8]) -> Answer
+    ensures { λ r. ⌜ (outcomeOf r, now (out .exit)) ≡ writes ok frame (record { id = id; kind = kind; repeat = repeat; address = address; payload = now («data» .entry) }) (now (out .entry)) ⌝ }
+{
+    if is_sendable(kind, repeat, data.len()) {
+        let header = [id, kind, repeat, address];
+        let check = checksum::crc32_joined(&header, data);
+        let mut trailer: [u8; 4] = [0; 4];
+        runs::put_number(&mut trailer, 0, 4, check);
+        send(&header, data, &trailer, out)
+    } else {
+        Answer::Refused(refusal::UNSENDABLE)
+    }
+}
+
+// Hunting: an FD opens a frame, any other byte is noise.
+fn hunt(state: State, byte: u8) -> Stepped
+    requires { ⌜ state .mode ≡ 0 ⌝ }
+    ensures { λ r. ⌜ ((store : List ℕ) → Answers state store (cut hunting byte) r store) ⌝ }
+{
+    if byte == 0xFD {
+        Stepped {
+            event: Event::Nothing,
+            state: framing::reopen(state, 1, 0, 1),
+        }
+    } else {
+        Stepped {
+            event: Event::Nothing,
+            state: framing::add_noise(state, 1),
+        }
+    }
+}
+
+// One more byte is gathered, unless the link's size is reached.
+fn gather_byte(state: State, store: &mut [u8], byte: u8) -> Stepped
+    requires { ⌜ (state .mode ≡ 0 → ⊥) × Room state (now store) ⌝ }
+    ensures { λ r. ⌜ ((wire : List ℕ) → Answers state (now (store .entry)) (gather (take (state .count) (now (store .entry))) byte wire) r (now (store .exit))) ⌝ }
+{
+    let at = state.count;
+    if at < SIZE {
+        store[at] = byte;
+        Stepped {
+            event: Event::Nothing,
+            state: framing::hold(state, 1, at + 1),
+        }
+    } else {
+        Stepped {
+            event: Event::Refused(refusal::TOO_LONG),
+            state: framing::close(state),
+        }
+    }
+}
+
+// Whether the CRC in the last four of so many bytes is that of those before it.
+fn check_right(store: &[u8], count: usize) -> bool
+    requires { ⌜ (4 ≤ count) × (count ≤ length (now store)) ⌝ }
+    ensures { λ r. ⌜ r ≡ checkRight (take count (now (store .entry))) ⌝ }
+{
+    let end = count - 4;
+    runs::number_at(store, end, 4) == checksum::crc32(&store[..end])
+}
+
+// The end of a frame with so many gathered bytes.
+fn judge_frame(store: &[u8], count: usize) -> Event
+    requires { ⌜ (count ≤ size) × (size ≤ length (now store)) ⌝ }
+    ensures { λ r. ⌜ ((wire : List ℕ) → toldOf r ≡ told link (eventOf (some (judge (take count (now (store .entry))) wire)))) ⌝ }
+{
+    if count < 8 {
+        return Event::Refused(refusal::TOO_SHORT);
+    }
+    if check_right(store, count) {
+        let kind = store[1];
+        let repeat = store[2];
+        if fields_ok(kind, repeat, count - 8) {
+            Event::Accepted(Message {
+                id: store[0],
+                kind: kind,
+                repeat: repeat,
+                address: store[3],
+                length: count - 8,
+            })
+        } else {
+            Event::Refused(refusal::WRONG_FIELD)
+        }
+    } else {
+        Event::Refused(refusal::WRONG_CHECK)
+    }
+}
+
+// What a byte of an open frame means, in mode 2 after an FF.
+fn meaning_in(mode: usize, byte: u8) -> Meaning
+    ensures { λ r. ⌜ meaningOf r ≡ meaning Escape.expansion (eqb mode 2) byte ⌝ }
+{
+    if mode == 2 {
+        escape::expansion_after(byte)
+    } else {
+        escape::expansion_plain(byte)
+    }
+}
+
+// A byte of an open frame, by its meaning.
+fn act_on(state: State, store: &mut [u8], meaning: Meaning) -> Stepped
+    requires { ⌜ (state .mode ≡ 0 → ⊥) × Room state (now store) ⌝ }
+    ensures { λ r. ⌜ ((before wire : List ℕ) → Answers state (now (store .entry)) (act (take (state .count) (now (store .entry))) before wire (meaningOf meaning)) r (now (store .exit))) ⌝ }
+{
+    match meaning {
+        Meaning::Byte(byte) => gather_byte(state, store, byte),
+        Meaning::Waits => Stepped {
+            event: Event::Nothing,
+            state: framing::hold(state, 2, state.count),
+        },
+        Meaning::Start => Stepped {
+            event: Event::Refused(refusal::NEW_START),
+            state: framing::reopen(state, 1, 0, 1), // no FF waits behind the FD
+        },
+        Meaning::End => Stepped {
+            event: judge_frame(store, state.count),
+            state: framing::close(state),
+        },
+        Meaning::Wrong => Stepped {
+            event: Event::Refused(refusal::WRONG_CODE),
+            state: framing::close(state),
+        },
+    }
+}
+
+// One byte, in any mode.
+fn step(state: State, store: &mut [u8], byte: u8) -> Stepped
+    requires { ⌜ Room state (now store) ⌝ }
+    ensures { λ r. ⌜ Answers state (now (store .entry)) (cut (phaseOf state (now (store .entry))) byte) r (now (store .exit)) ⌝ }
+{
+    let mode = state.mode;
+    if mode == 0 {
+        return hunt(state, byte);
+    }
+    let meaning = meaning_in(mode, byte);
+    act_on(state, store, meaning)
+}
+
+// Whether there is an event.
+fn made(event: Event) -> bool
+    ensures { λ r. ⌜ r ≡ isEvent (toldOf event) ⌝ }
+{
+    match event {
+        Event::Nothing => false,
+        Event::Accepted(_) => true,
+        Event::Refused(_) => true,
+    }
+}
+
+// The bytes of a piece, up to and including the first that makes an event.
+fn scan(state: State, store: &mut [u8], piece: &[u8]) -> Received
+    requires { ⌜ Room state (now store) ⌝ }
+    ensures { λ r. ⌜ answerOf r (now (store .exit)) ≡ answered link (feed (stepOn link) (state, now (store .entry)) (now (piece .entry))) ⌝ }
+{
+    let mut current = state;
+    let mut i = 0;
+    while i < piece.len() {
+        let s = step(current, store, piece[i]);
+        let next = s.state;
+        current = next;
+        i += 1;
+        let event = s.event;
+        if made(event) {
+            return Received {
+                event: event,
+                used: i,
+                state: current,
+            };
+        }
+    }
+    Received {
+        event: Event::Nothing,
+        used: i,
+        state: current,
+    }
+}
+
+// A call of the receiver: uses the bytes of the piece up to and including the first that makes an event, else all.
+pub fn receive(state: State, store: &mut [u8], piece: &[u8]) -> Received
+    ensures { λ r. ⌜ answerOf r (now (store .exit)) ≡ answer link (state, now (store .entry)) (now (piece .entry)) ⌝ }
+{
+    if framing::is_known(state, 3, 1, SIZE) {
+        if SIZE <= store.len() {
+            scan(state, store, piece)
+        } else {
+            Received {
+                event: Event::Refused(refusal::STORE_SHORT),
+                used: 0,
+                state: state,
+            }
+        }
+    } else {
+        Received {
+            event: Event::Refused(refusal::UNKNOWN_STATE),
+            used: 0,
+            state: state,
+        }
+    }
+}
+
+// The data of a message, as a part of the store; an empty part where it does not lie in the store.
+pub fn data(store: &[u8], message: Message) -> &[u8]
+    ensures { λ r. ⌜ now r ≡ dataOf (now (store .entry)) message ⌝ }
+{
+    let length = message.length;
+    if store.len() < 4 {
+        return &store[..0];
+    }
+    if length <= store.len() - 4 {
+        let end = 4 + length;
+        &store[4..end]
+    } else {
+        &store[..0]
+    }
+}

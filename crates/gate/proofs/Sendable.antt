@@ -1,0 +1,44 @@
+-- A reply may be sent, and is short.
+use Prim.Native.Nat.{ℕ, _+_, _≤_}
+use mathlib.Core.Path.{_≡_, subst}
+use mathlib.Core.Bool.{Bool, true}
+use mathlib.Core.List.{List, _++_}
+use mathlib.Core.Option.{some}
+use native.Mathlib.Omega.{arith}
+use native.Mathlib.Decide.{decLe}
+use lib.ListN.{length, length-append}
+use Rattle.runs.proofs.Number.{length-bytesOf}
+use Rattle.framing.specs.Answer.{refused, storedAt}
+use Rattle.framing.specs.Link.{writeOn}
+use Rattle.framing.proofs.Stored.{stored-done, stored-refused}
+use Rattle.escape.specs.Expansion as Escape
+use Rattle.escape.proofs.Lawful.{hide-short}
+use Rattle.escape.proofs.Expansion.{expansion-lawful}
+use Rattle.expansion.specs.Frame.{kindOk, ok, body, trailer, frame}
+use Rattle.expansion.specs.Frame as Frame
+use Rattle.expansion.specs.Contract.{link}
+use Rattle.gate.specs.Answering.{reply}
+use Rattle.gate.specs.Claims.{Sendable}
+
+-- a message that may be sent is answered with its length or with 2
+never-3 : (m : Frame.Message) → ok m ≡ true → (memory : List ℕ) → writeOn link m memory .0 ≡ refused 3 → ⊥
+never-3 m h memory = rw h (go (decLe (0 + length (frame m)) (length memory)))
+  where
+    go : Dec (0 + length (frame m) ≤ length memory) → storedAt (frame m) memory 0 .0 ≡ refused 3 → ⊥
+    go (yes l) e = let f = stored-done (frame m) memory 0 l in let z : _≡_ {A = ℕ} 0 1 = cc in omega arith
+    go (no l) e = let f = stored-refused (frame m) memory 0 (omega arith) in let z : _≡_ {A = ℕ} 2 3 = cc in omega arith
+
+-- two marks, and at most two bytes for each of the header and the CRC
+reply-short : (head : Bool) (kind id address : ℕ) → length (frame (reply head kind id address)) ≤ 18
+reply-short head kind id address =
+    let b : List ℕ = body (reply head kind id address) in
+    let h = hide-short Escape.expansion expansion-lawful (b ++ trailer b) in
+    let l = length-append b (trailer b) in
+    let t : length (trailer b) ≡ 4 = simp length-bytesOf in
+    simp length-append (omega arith)
+
+pub sendable : (head : Bool) (kind id address : ℕ) (m : Frame.Message) → kindOk kind 0 ≡ true → some (reply head kind id address) ≡ some m → Sendable m
+sendable head kind id address m k h =
+    let e : reply head kind id address ≡ m = cc in
+    let may : ok (reply head kind id address) ≡ true = rw k in
+    subst Sendable e (record { may = may; short = reply-short head kind id address; never3 = never-3 (reply head kind id address) may })

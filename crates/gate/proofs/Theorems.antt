@@ -1,0 +1,69 @@
+-- The claims of specs/Claims.antt.
+use Prim.Native.Nat.{ℕ, _+_, _%_, _^_, _≤_}
+use mathlib.Core.Path.{_≡_, refl, _∙_}
+use mathlib.Core.Bool.{Bool, true, false, cond, _&&_}
+use mathlib.Core.List.{[], _∷_}
+use mathlib.Core.Option.{some, Option·none-ne-some}
+use native.Mathlib.Omega.{arith}
+use lib.Dec.{eqb, leb}
+use lib.ListN.{length, getD}
+use borrow.Author.Tests.{leb-true, le-leb, ne-eqb}
+use Rattle.runs.proofs.Cases.{by-test, by-eqb}
+use Rattle.framing.specs.Receiver.{emit}
+use Rattle.framing.specs.Link.{nothing, numbers, number}
+use Rattle.framing.specs.Claims.{AllOf}
+use Rattle.gate.specs.Asking.{start, freshExchange, known, since, sends, ended}
+use Rattle.gate.specs.Asking as Asking
+use Rattle.gate.specs.Answering.{Answered}
+use Rattle.gate.specs.Claims.{after, requests, starts, beforeLast, RepeatAtMost3, FourSends, IdsGoRound, OtherIdChangesNothing, WaitOverIff, Sendable, ReplySendable, CheckErrorAsGathered}
+use Rattle.gate.proofs.Steps.{next, by-step, left-le, sends-left, ids}
+use Rattle.gate.proofs.Reported.{front, reported}
+use Rattle.gate.proofs.Sendable.{sendable}
+
+pub repeat-at-most-3 : RepeatAtMost3
+unfolding after requests
+repeat-at-most-3 e [] = (λ h. h, tt)
+repeat-at-most-3 e (s ∷ ss) =
+    by-step e (λ b m e′. (e .repeat ≤ 3 → after e′ ss .repeat ≤ 3) × AllOf (λ (m : ℕ × ℕ). m .1 ≤ 3) (emit m (requests e′ ss)))
+    (repeat-at-most-3 e ss) (repeat-at-most-3 (ended e) ss)
+    (λ now. let r = repeat-at-most-3 (sends (next e) 0 now .1) ss in (λ _. r .0 (omega arith), (omega arith, r .1)))
+    (λ now m l. let r = repeat-at-most-3 (sends (e .id) (e .repeat + 1) now .1) ss in (λ _. r .0 (omega arith), (omega arith, r .1))) s
+
+pub four-sends : FourSends
+unfolding requests
+four-sends e now ss =
+    by-step e (λ b m e′. starts e′ ss ≡ [] → length (emit m (requests e′ ss)) ≤ 4) (λ h. omega (arith, sends-left e ss h, left-le e))
+    (λ h. omega (arith, sends-left (ended e) ss h)) (λ now h. omega (arith, sends-left (sends (next e) 0 now .1) ss h))
+    (λ now m r h. omega (arith, sends-left (sends (e .id) (e .repeat + 1) now .1) ss h)) (start now)
+
+pub ids-go-round : IdsGoRound
+ids-go-round ss n h = ids freshExchange ss n h ∙ omega arith
+
+pub other-id-changes-nothing : OtherIdChangesNothing
+other-id-changes-nothing e kind id now h = rw (ne-eqb id (e .id) h) (go (known e) (eqb (e .mode) 1))
+  where
+    go : (k w : Bool) → cond k (cond (w && false) (Asking.replied e kind now) (Asking.nothing, e)) (Asking.refused 12, e) ≡ (cond k Asking.nothing (Asking.refused 12), e)
+    go false w = refl
+    go true false = refl
+    go true true = refl
+
+pub wait-over-iff : WaitOverIff
+wait-over-iff sent later h k =
+    let d : since ((sent + later) % 2 ^ 32) sent ≡ later = omega arith in
+    rw d (leb-true 100 later, le-leb 100 later)
+
+pub reply-sendable : ReplySendable
+reply-sendable head a nothing store m h = absurd (Option·none-ne-some m h)
+reply-sendable head a (numbers v) store m h =
+    by-eqb (λ (r : Answered). r .reply ≡ some m → Sendable m) (v .kind) 0 (λ _. sendable head 1 (v .id) (v .address) m refl)
+    (λ _ h. absurd (Option·none-ne-some m h)) h
+reply-sendable head a (number n) store m h =
+    by-test (λ (r : Answered). r .reply ≡ some m → Sendable m) (eqb n 8 && leb 4 (length store))
+    (λ _. sendable head 2 (getD store 0 0) (getD store 3 0) m refl) (λ _ h. absurd (Option·none-ne-some m h)) h
+
+pub check-error-as-gathered : CheckErrorAsGathered
+check-error-as-gathered head a c piece h =
+    let r = reported c piece h in
+    let f = front (beforeLast c piece .0) (beforeLast c piece .1) (r .long) in
+    let room : 4 ≤ length (beforeLast c piece .1) = omega arith in
+    (r .long, rw (h, r .same, le-leb 4 (length (beforeLast c piece .1)) room, f .1 0 (omega arith), f .1 3 (omega arith)))

@@ -1,0 +1,11 @@
+use Rattle.gate.proofs.reply_to.Statement.{statement}
+use Rattle.gate.proofs.reply_to.Tie as tie
+
+returns : tie.Need-returns
+returns c = simp (c .if1 .taken)
+
+returns-2 : tie.Need-returns-2
+returns-2 c = simp (c .if1 .left)
+
+pub reply-to-spec : {M : Type 1} → statement M
+reply-to-spec = tie.close (tie.spec returns returns-2)

@@ -1,0 +1,67 @@
+-- The store after a byte: what is gathered in front, and the rest as it was.
+use Prim.Native.Nat.{ℕ, suc, _+_, _-_, _≤_, _<_}
+use mathlib.Core.Path.{_≡_, refl, ap, sym, subst, _∙_}
+use mathlib.Core.Bool.{Bool, true}
+use mathlib.Core.List.{List, [], _∷_, _++_}
+use mathlib.Core.Option.{Option}
+use native.Mathlib.Numerals.{add-one}
+use native.Mathlib.Omega.{arith}
+use lib.Dec.{ltb}
+use lib.ListN.{length, take, drop, set, length-append, length-take}
+use lib.Seq.{length-take-le, set-split, append-snoc, take-add, drop-at, take-take}
+use borrow.Author.Tests.{eqb-true, leb-true}
+use Rattle.runs.specs.Runs.{over}
+use Rattle.runs.proofs.Cases.{by-eqb, by-ltb, and-both}
+use Rattle.framing.specs.Segment.{Segment}
+use Rattle.framing.specs.State.{knownState}
+use Rattle.framing.specs.declared.State.{State}
+use Rattle.pcs.specs.Frame as Frame
+use Rattle.pcs.specs.Rules.{Phase, hunting, inside, size, gathered, packedPart, cut}
+use Rattle.pcs.specs.Contract.{phaseOf, frontOf}
+use Rattle.pcs.specs.Steps.{Answers}
+use Rattle.pcs.specs.declared.Stepped.{Stepped}
+
+module _ (store : List ℕ) (at : ℕ) where
+  pub more-count : (b : ℕ) → at ≤ length store → length (take at store ++ (b ∷ [])) ≡ at + 1
+  more-count b h = length-append (take at store) (b ∷ []) ∙ rw (length-take-le at store h)
+
+  pub more-over : (b : ℕ) → at < length store → set store at b ≡ over (take at store ++ (b ∷ [])) store
+  more-over b h = rw (more-count b (omega arith), add-one) (set-split store at b h ∙ sym (append-snoc (take at store) b (drop (suc at) store)))
+
+  -- the packed bytes of the first so many of a store
+  pub packed-at : 9 ≤ at → at ≤ length store → packedPart (take at store) ≡ take (at - 9) (drop 8 store)
+  packed-at l h =
+      let k : at ≡ 8 + (at - 8) = omega arith in
+      rw (length-take-le at store h)
+      (ap (λ (n : ℕ). take (at - 9) (drop 8 (take n store))) k
+      ∙ ap (λ (x : List ℕ). take (at - 9) (drop 8 x)) (take-add 8 (at - 8) store)
+      ∙ ap (take (at - 9)) (drop-at (take 8 store) (take (at - 8) (drop 8 store)) 8 (length-take-le 8 store (omega arith)))
+      ∙ take-take (at - 9) (at - 8) (drop 8 store) (omega arith))
+
+-- hunting writes nothing
+pub hunting-store : (store : List ℕ) (b : ℕ) → over (frontOf (cut hunting b)) store ≡ store
+hunting-store store b = by-eqb (λ (r : Phase × Option (Segment Frame.Message)). over (frontOf r) store ≡ store) b 253 (λ _. refl) (λ _. refl)
+
+-- the count stays within the size
+pub known-count : (s : State) → knownState 2 1 size s ≡ true → s .count ≤ size
+known-count s h =
+    by-ltb (λ (t : Bool). t ≡ true → s .count ≤ size) (s .mode) 1
+    (λ _ e. let n = eqb-true (s .count) 0 e in omega arith)
+    (λ _ e. leb-true (s .count) size e) (and-both (ltb (s .mode) 2) _ h .1)
+
+cut-short : (p : Phase) (b : ℕ) → length (gathered p) ≤ size → length (gathered (cut p b .0)) ≤ size
+cut-short hunting b h = by-eqb (λ (r : Phase × Option (Segment Frame.Message)). length (gathered (r .0)) ≤ size) b 253 (λ _. omega arith) (λ _. omega arith)
+cut-short (inside g) b h =
+    by-eqb P b 253 (λ _. omega arith) (λ _. by-eqb P b 254 (λ _. omega arith) (λ _.
+    by-ltb P (length g) size (λ l. simp length-append (omega arith)) (λ _. omega arith)))
+  where
+    P : Phase × Option (Segment Frame.Message) → Type 0
+    P r = length (gathered (r .0)) ≤ size
+
+phase-short : (s : State) (store : List ℕ) → s .count ≤ size → length (gathered (phaseOf s store)) ≤ size
+phase-short s store h =
+    by-eqb (λ (p : Phase). length (gathered p) ≤ size) (s .mode) 0 (λ _. omega arith) (λ _. simp length-take (omega arith))
+
+pub next-count : (s : State) (store : List ℕ) (b : ℕ) (r : Stepped) → Answers s (cut (phaseOf s store) b) r → s .count ≤ size → r .state .count ≤ size
+next-count s store b r a h =
+    subst (λ (x : State). x .count ≤ size) (sym (a .state)) (cut-short (phaseOf s store) b (phase-short s store h))

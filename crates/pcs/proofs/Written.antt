@@ -1,0 +1,47 @@
+-- What the writer stores, one part after the other, is the frame.
+use Prim.Native.Nat.{ℕ, _+_, _-_, _≤_}
+use mathlib.Core.Path.{_≡_, ap, ap₂, sym, _∙_}
+use mathlib.Core.List.{List, [], _∷_, _++_}
+use native.Mathlib.Omega.{arith}
+use lib.ListN.{length, take, drop, length-append}
+use lib.Seq.{sets, take-at}
+use Rattle.runs.proofs.Run.{sets-append, sets-over}
+use Rattle.framing.specs.Answer.{done, storedAt}
+use Rattle.framing.proofs.Stored.{stored-done}
+use Rattle.packing.specs.Packed.{packedLength}
+use Rattle.packing.proofs.Lengths.{length-packed}
+use Rattle.checksum.specs.Sum.{sumOf}
+use Rattle.pcs.specs.Frame.{Message, frame}
+
+pub frame-length : (m : Message) → length (frame m) ≡ 11 + packedLength (length (m .payload))
+frame-length m = simp length-append (omega (arith, length-packed (m .payload)))
+
+-- the frame, at the start of memory that holds it, is what a writer leaves
+pub written : (m : Message) (memory after : List ℕ) {n : ℕ} → length (frame m) ≡ n → n ≤ length memory → after ≡ sets memory 0 (frame m)
+    → (done n, after) ≡ storedAt (frame m) memory 0
+written m memory after {n} e h a = ap₂ (λ (k : ℕ) (l : List ℕ). (done k, l)) (sym e) a ∙ sym (stored-done (frame m) memory 0 (omega arith))
+
+-- the start mark and a header of 8, then n packed bytes p, then the sum of both and the end mark
+module _ (memory h p first second third : List ℕ) (n : ℕ) (eight : length h ≡ 8) (long : length p ≡ n) (room : 11 + n ≤ length memory)
+    (e₁ : first ≡ sets memory 0 (253 ∷ h)) (e₂ : second ≡ sets first 9 p)
+    (e₃ : third ≡ sets second (9 + n) (sumOf (take (9 + n - 1) (drop 1 second)) ∷ 254 ∷ [])) where
+  both : length (h ++ p) ≡ 8 + n
+  both = length-append h p ∙ omega arith
+
+  front : second ≡ sets memory 0 (253 ∷ (h ++ p))
+  front =
+      let nine : 9 ≡ 0 + length (253 ∷ h) = omega arith in
+      e₂ ∙ ap₂ (λ (l : List ℕ) (k : ℕ). sets l k p) e₁ nine ∙ sym (sets-append (253 ∷ h) p memory 0)
+
+  summed : take (9 + n - 1) (drop 1 second) ≡ h ++ p
+  summed =
+      ap (λ (l : List ℕ). take (9 + n - 1) (drop 1 l)) (front ∙ sets-over (253 ∷ (h ++ p)) memory (omega (arith, both)))
+      ∙ take-at (h ++ p) (drop (length (253 ∷ (h ++ p))) memory) (9 + n - 1) (omega (arith, both))
+
+  pub parts-written : third ≡ sets memory 0 (253 ∷ ((h ++ p) ++ (sumOf (h ++ p) ∷ 254 ∷ [])))
+  parts-written =
+      let end : 9 + n ≡ 0 + length (253 ∷ (h ++ p)) = omega (arith, both) in
+      e₃
+      ∙ ap (λ (x : List ℕ). sets second (9 + n) (sumOf x ∷ 254 ∷ [])) summed
+      ∙ ap₂ (λ (l : List ℕ) (k : ℕ). sets l k (sumOf (h ++ p) ∷ 254 ∷ [])) front end
+      ∙ sym (sets-append (253 ∷ (h ++ p)) (sumOf (h ++ p) ∷ 254 ∷ []) memory 0)

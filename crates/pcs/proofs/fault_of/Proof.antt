@@ -1,0 +1,103 @@
+use Prim.Native.Nat.{_-_}
+use mathlib.Core.Path.{sym, _∙_}
+use native.Mathlib.Omega.{arith}
+use lib.ListN.{length, take}
+use lib.Seq.{length-take-le}
+use borrow.Author.Tests.{lt-ltb, le-ltb, eq-eqb, ne-eqb}
+use borrow.Author.Needs.{needs}
+use Rattle.checksum.specs.Sum.{sumOf}
+use Rattle.pcs.specs.Rules.{stated}
+use Rattle.pcs.specs.Steps.{faultOf}
+use Rattle.pcs.proofs.fault_of.Statement.{statement}
+use Rattle.pcs.proofs.fault_of.Tie as tie
+
+returns : tie.Need-returns
+unfolding faultOf
+returns c = rw (lt-ltb _ 9 (c .if1 .taken))
+
+shared-slice-read-asks-crc : tie.Need-shared-slice-read-asks-crc
+shared-slice-read-asks-crc c = search needs
+
+asks-crc-requires : tie.Need-asks-crc-requires
+asks-crc-requires c κs = search needs
+
+returns-2 : tie.Need-returns-2
+unfolding faultOf
+returns-2 c = rw (le-ltb _ 9 (c .before .before .before .if1 .left), sym (c .before .asks-crc .ensures) ∙ c .if2 .taken)
+
+sub-end : tie.Need-sub-end
+sub-end c = search needs
+
+shared-slice-read-if3 : tie.Need-shared-slice-read-if3
+shared-slice-read-if3 c = search needs
+
+slice-aggregate-sum : tie.Need-slice-aggregate-sum
+slice-aggregate-sum c =
+    let g = c .before .before .before .before .before .before .before .args .gathered .now in
+    sym (length-take-le (length g - 1) g (omega arith))
+
+sum-requires : tie.Need-sum-requires
+sum-requires c κs = search needs
+
+returns-3 : tie.Need-returns-3
+unfolding faultOf
+returns-3 c =
+    let g = c .before .before .before .before .before .before .before .before .before .args .gathered .now in
+    let s = ne-eqb _ (sumOf (take (length g - 1) g)) (λ e. c .if3 .taken (e ∙ sym (c .before .sum .ensures))) in
+    rw (le-ltb _ 9 (c .before .before .before .before .before .before .before .if1 .left), sym (c .before .before .before .before .before .asks-crc .ensures) ∙ c .before .before .before .before .if2 .left, s)
+
+fields-ok-requires : tie.Need-fields-ok-requires
+fields-ok-requires c κs = search needs
+
+shared-slice-read-stated-by : tie.Need-shared-slice-read-stated-by
+shared-slice-read-stated-by c = search needs
+
+shared-slice-read-stated-by-2 : tie.Need-shared-slice-read-stated-by-2
+shared-slice-read-stated-by-2 c = search needs
+
+stated-by-requires : tie.Need-stated-by-requires
+stated-by-requires c κs = search needs
+
+returns-4 : tie.Need-returns-4
+unfolding faultOf
+returns-4 c =
+    let g = c .before .before .before .before .before .before .before .before .before .before .before .before .before .before .before .args .gathered .now in
+    let s = eq-eqb _ (sumOf (take (length g - 1) g)) (c .before .before .before .before .before .before .if3 .left ∙ c .before .before .before .before .before .before .before .sum .ensures) in
+    let n = eq-eqb (stated g) (length g - 9) (sym (c .before .stated-by .ensures) ∙ c .if5 .taken) in
+    rw (le-ltb _ 9 (c .before .before .before .before .before .before .before .before .before .before .before .before .before .if1 .left), sym (c .before .before .before .before .before .before .before .before .before .before .before .asks-crc .ensures) ∙ c .before .before .before .before .before .before .before .before .before .before .if2 .left, s, sym (c .before .before .before .before .before .fields-ok .ensures) ∙ c .before .before .before .before .if4 .taken, n)
+
+returns-5 : tie.Need-returns-5
+unfolding faultOf
+returns-5 c =
+    let g = c .before .before .before .before .before .before .before .before .before .before .before .before .before .before .before .args .gathered .now in
+    let s = eq-eqb _ (sumOf (take (length g - 1) g)) (c .before .before .before .before .before .before .if3 .left ∙ c .before .before .before .before .before .before .before .sum .ensures) in
+    let n = ne-eqb (stated g) (length g - 9) (λ e. c .if5 .left (c .before .stated-by .ensures ∙ e)) in
+    rw (le-ltb _ 9 (c .before .before .before .before .before .before .before .before .before .before .before .before .before .if1 .left), sym (c .before .before .before .before .before .before .before .before .before .before .before .asks-crc .ensures) ∙ c .before .before .before .before .before .before .before .before .before .before .if2 .left, s, sym (c .before .before .before .before .before .fields-ok .ensures) ∙ c .before .before .before .before .if4 .taken, n)
+
+returns-6 : tie.Need-returns-6
+unfolding faultOf
+returns-6 c =
+    let g = c .before .before .before .before .before .before .before .before .before .before .before .args .gathered .now in
+    let s = eq-eqb _ (sumOf (take (length g - 1) g)) (c .before .before .if3 .left ∙ c .before .before .before .sum .ensures) in
+    rw (le-ltb _ 9 (c .before .before .before .before .before .before .before .before .before .if1 .left), sym (c .before .before .before .before .before .before .before .asks-crc .ensures) ∙ c .before .before .before .before .before .before .if2 .left, s, sym (c .before .fields-ok .ensures) ∙ c .if4 .left)
+
+pub fault-of-spec : {M : Type 1} → statement M
+fault-of-spec =
+    tie.close
+    (tie.spec
+    returns
+    shared-slice-read-asks-crc
+    asks-crc-requires
+    returns-2
+    sub-end
+    shared-slice-read-if3
+    slice-aggregate-sum
+    sum-requires
+    returns-3
+    fields-ok-requires
+    shared-slice-read-stated-by
+    shared-slice-read-stated-by-2
+    stated-by-requires
+    returns-4
+    returns-5
+    returns-6)

@@ -1,0 +1,81 @@
+use Prim.Native.Nat.{_-_}
+use mathlib.Core.Path.{refl, ap, ap₂, _∙_}
+use mathlib.Core.Logic.{⊎-elim, inl, inr}
+use mathlib.Core.Bool.{and-assoc}
+use lib.Dec.{leb}
+use lib.ListN.{getD}
+use borrow.Author.Needs.{needs}
+use Rattle.packing.specs.Seven.{isSent}
+use Rattle.pcs.specs.Frame.{kindOk}
+use Rattle.pcs.specs.Rules.{stated}
+use Rattle.pcs.specs.Steps.{plainFieldsOk}
+use Rattle.pcs.specs.declared.Message.{Message}
+use Rattle.pcs.proofs.And.{joined}
+use Rattle.pcs.proofs.fields_ok.Statement.{statement}
+use Rattle.pcs.proofs.fields_ok.Tie as tie
+
+head-of-requires : tie.Need-head-of-requires
+head-of-requires c κs = search needs
+
+shared-slice-read-high : tie.Need-shared-slice-read-high
+shared-slice-read-high c = search needs
+
+shared-slice-read-low : tie.Need-shared-slice-read-low
+shared-slice-read-low c = search needs
+
+plain-fields-ok-requires : tie.Need-plain-fields-ok-requires
+plain-fields-ok-requires c κs = search needs
+
+shared-slice-read-if2 : tie.Need-shared-slice-read-if2
+shared-slice-read-if2 c = search needs
+
+is-sent-requires : tie.Need-is-sent-requires
+is-sent-requires c κs = search needs
+
+is-sent-requires-2 : tie.Need-is-sent-requires-2
+is-sent-requires-2 c κs = search needs
+
+stated-by-requires : tie.Need-stated-by-requires
+stated-by-requires c κs = search needs
+
+kind-ok-requires : tie.Need-kind-ok-requires
+kind-ok-requires c κs = search needs
+
+returns : tie.Need-returns
+returns c =
+    let t = c .before .before .before .before .before in
+    let s = t .before .before .before .before in
+    let g = s .before .before .args .gathered .now in
+    let v1 = t .before .plain-fields-ok .ensures ∙ ap plainFieldsOk (s .head-of .ensures) in
+    let v2 = joined {b = leb 4 (getD g 2 0)} v1 (⊎-elim (λ w. inl (w .0 .taken, w .2)) (λ w. inr (w .0 .left, w .1)) (t .if1 .came)) in
+    let v3 = joined {b = isSent (getD g 4 0)} v2 (⊎-elim (λ w. inl (w .0 .taken, w .2 ∙ w .1 .ensures)) (λ w. inr (w .0 .left, w .1)) (c .before .before .before .before .if2 .came)) in
+    let v4 = joined {b = isSent (getD g 5 0)} v3 (⊎-elim (λ w. inl (w .0 .taken, w .2 ∙ w .1 .ensures)) (λ w. inr (w .0 .left, w .1)) (c .before .before .before .if3 .came)) in
+    let k = c .kind-ok .ensures ∙ ap₂ kindOk (ap (λ (m : Message). m .kind) (s .head-of .ensures)) (c .before .stated-by .ensures) in
+    joined {b = kindOk (getD g 2 0 - 4) (stated g)} v4 (inl (c .before .before .if4 .taken, k)) ∙ simp and-assoc
+
+returns-2 : tie.Need-returns-2
+returns-2 c =
+    let t = c .before .before .before in
+    let s = t .before .before .before .before in
+    let g = s .before .before .args .gathered .now in
+    let v1 = t .before .plain-fields-ok .ensures ∙ ap plainFieldsOk (s .head-of .ensures) in
+    let v2 = joined {b = leb 4 (getD g 2 0)} v1 (⊎-elim (λ w. inl (w .0 .taken, w .2)) (λ w. inr (w .0 .left, w .1)) (t .if1 .came)) in
+    let v3 = joined {b = isSent (getD g 4 0)} v2 (⊎-elim (λ w. inl (w .0 .taken, w .2 ∙ w .1 .ensures)) (λ w. inr (w .0 .left, w .1)) (c .before .before .if2 .came)) in
+    let v4 = joined {b = isSent (getD g 5 0)} v3 (⊎-elim (λ w. inl (w .0 .taken, w .2 ∙ w .1 .ensures)) (λ w. inr (w .0 .left, w .1)) (c .before .if3 .came)) in
+    joined {b = kindOk (getD g 2 0 - 4) (stated g)} v4 (inr (c .if4 .left, refl)) ∙ simp and-assoc
+
+pub fields-ok-spec : {M : Type 1} → statement M
+fields-ok-spec =
+    tie.close
+    (tie.spec
+    head-of-requires
+    shared-slice-read-high
+    shared-slice-read-low
+    plain-fields-ok-requires
+    shared-slice-read-if2
+    is-sent-requires
+    is-sent-requires-2
+    stated-by-requires
+    kind-ok-requires
+    returns
+    returns-2)

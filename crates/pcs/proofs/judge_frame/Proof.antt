@@ -1,0 +1,90 @@
+use mathlib.Core.Path.{_≡_, sym, ap, _∙_}
+use native.Mathlib.Omega.{arith}
+use lib.ListN.{take}
+use lib.Seq.{length-take-le}
+use borrow.Author.Needs.{needs}
+use Rattle.framing.specs.Answer.{outcomeOf}
+use Rattle.framing.specs.Link.{number}
+use Rattle.pcs.specs.Steps.{faultOf, toldWith}
+use Rattle.pcs.specs.declared.Message.{Message}
+use Rattle.pcs.proofs.Judge.{fault-long, judge-fault, judge-told, judge-stored}
+use Rattle.pcs.proofs.judge_frame.Statement.{statement}
+use Rattle.pcs.proofs.judge_frame.Tie as tie
+
+slice-reshare-prefix-fault-of : tie.Need-slice-reshare-prefix-fault-of
+slice-reshare-prefix-fault-of c = search needs
+
+slice-aggregate-fault-of : tie.Need-slice-aggregate-fault-of
+slice-aggregate-fault-of c =
+    let a = c .before .before .args in
+    sym (length-take-le (a .count) (a .store .now) (omega arith))
+
+fault-of-requires : tie.Need-fault-of-requires
+fault-of-requires c κs = search needs
+
+same-length : tie.Need-same-length
+same-length c = search needs
+
+returns : tie.Need-returns
+returns c =
+    let a = c .before .before .before .before .args in
+    let f = c .before .fault-of .ensures in
+    let g = take (a .count) (a .store .now) in
+    let n : faultOf g ≡ 0 → ⊥ = λ e. c .if1 .taken (f ∙ e) in
+    (λ wire. rw (judge-fault g wire n) (ap number f), λ wire. rw (judge-fault g wire n))
+
+slice-reshare-prefix-head-of : tie.Need-slice-reshare-prefix-head-of
+slice-reshare-prefix-head-of c = search needs
+
+slice-aggregate-head-of : tie.Need-slice-aggregate-head-of
+slice-aggregate-head-of c =
+    let a = c .before .before .before .before .before .args in
+    sym (length-take-le (a .count) (a .store .now) (omega arith))
+
+head-of-requires : tie.Need-head-of-requires
+head-of-requires c κs =
+    let a = c .before .before .before .before .before .args in
+    fault-long (take (a .count) (a .store .now)) (sym (c .before .before .fault-of .ensures) ∙ c .before .if1 .left)
+
+sub-unpack-in-place : tie.Need-sub-unpack-in-place
+sub-unpack-in-place c =
+    let a = c .before .before .before .before .before .before .before .args in
+    rw (length-take-le (a .count) (a .store .now) (omega arith)) at (fault-long (take (a .count) (a .store .now)) (sym (c .before .before .before .before .fault-of .ensures) ∙ c .before .before .before .if1 .left))
+
+unpack-in-place-requires : tie.Need-unpack-in-place-requires
+unpack-in-place-requires c κs = search needs
+
+told-of-requires : tie.Need-told-of-requires
+told-of-requires c κs = search needs
+
+same-length-2 : tie.Need-same-length-2
+same-length-2 c = search needs
+
+returns-2 : tie.Need-returns-2
+returns-2 c =
+    let s = c .before .before .before .before .before .before .before .before .before .before .before in
+    let u = c .before .before .before .unpack-in-place in
+    let f = sym (c .before .before .before .before .before .before .before .before .fault-of .ensures) ∙ c .before .before .before .before .before .before .before .if1 .left in
+    let h = c .before .before .before .before .before .head-of .ensures in (
+      λ wire. c .told-of .ensures ∙ ap (λ (m : Message). toldWith m (outcomeOf (u .result))) h
+          ∙ judge-told (s .args .store .now) (s .args .count) (s .pre) f (outcomeOf (u .result)) (u .last .0) (u .ensures) wire,
+      λ wire. judge-stored (s .args .store .now) (s .args .count) (s .pre) f (outcomeOf (u .result)) (u .last .0) (u .ensures) wire,
+    )
+
+pub judge-frame-spec : {M : Type 1} → statement M
+judge-frame-spec =
+    tie.close
+    (tie.spec
+    slice-reshare-prefix-fault-of
+    slice-aggregate-fault-of
+    fault-of-requires
+    same-length
+    returns
+    slice-reshare-prefix-head-of
+    slice-aggregate-head-of
+    head-of-requires
+    sub-unpack-in-place
+    unpack-in-place-requires
+    told-of-requires
+    same-length-2
+    returns-2)

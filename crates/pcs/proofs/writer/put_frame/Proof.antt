@@ -1,0 +1,58 @@
+use Prim.Native.Nat.{ℕ, _+_, _≤_}
+use mathlib.Core.Path.{_≡_, refl, sym, ap, _∙_}
+use mathlib.Core.List.{[], _∷_, _++_}
+use native.Mathlib.Omega.{arith}
+use lib.ListN.{length}
+use lib.Seq.{sets}
+use borrow.Author.Needs.{needs}
+use Rattle.framing.proofs.Stored.{stored-done}
+use Rattle.packing.specs.Packed.{packed}
+use Rattle.packing.proofs.Lengths.{length-packed}
+use Rattle.checksum.specs.Sum.{sumOf}
+use Rattle.pcs.specs.Frame.{header}
+use Rattle.pcs.specs.Steps.{withData}
+use Rattle.pcs.proofs.Written.{parts-written}
+use Rattle.pcs.proofs.writer.put_frame.Statement.{statement}
+use Rattle.pcs.proofs.writer.put_frame.Tie as tie
+
+put-header-requires : tie.Need-put-header-requires
+put-header-requires c κs = search needs
+
+pack-into-requires : tie.Need-pack-into-requires
+pack-into-requires c κs = search needs
+
+add-put-end : tie.Need-add-put-end
+add-put-end c = search needs
+
+put-end-requires : tie.Need-put-end-requires
+put-end-requires c κs = search needs
+
+same-length : tie.Need-same-length
+same-length c = search needs
+
+returns : tie.Need-returns
+returns c =
+    let s = c .before .before .before .before .before .before .before .before .before .before .before .before .before .before in
+    let out = s .args .out .now in
+    let d = s .args .«data» .now in
+    let m = withData (s .args .message) d in
+    let h = c .before .before .before .before .before .before .before .before .before .before .put-header in
+    let p = c .before .before .before .before .before .before .pack-into in
+    let e = c .before .before .put-end in
+    let n : s .args .packed ≡ length (packed d) = s .pre .2 ∙ sym (length-packed d) in
+    let room : 9 + length (packed d) ≤ length (h .last .1 .1 .0) = omega (arith, h .kept .1 .1 .0) in
+    let w = p .ensures ∙ stored-done (packed d) (h .last .1 .1 .0) 9 room in
+    parts-written out (header m (s .args .packed)) (packed d) (h .last .1 .1 .0) (p .last .1 .0) (e .last .0) (s .args .packed) refl (sym n) (omega arith)
+    (h .ensures) (λ i. w i .1) (e .ensures)
+    ∙ ap (λ (k : ℕ). sets out 0 (253 ∷ ((header m k ++ packed d) ++ (sumOf (header m k ++ packed d) ∷ 254 ∷ [])))) n
+
+pub put-frame-spec : {M : Type 1} → statement M
+put-frame-spec =
+    tie.close
+    (tie.spec
+    put-header-requires
+    pack-into-requires
+    add-put-end
+    put-end-requires
+    same-length
+    returns)

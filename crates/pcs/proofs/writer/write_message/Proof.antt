@@ -1,0 +1,62 @@
+use Prim.Native.Nat.{ℕ, _+_}
+use mathlib.Core.Path.{sym, ap, _∙_}
+use native.Mathlib.Omega.{arith}
+use lib.ListN.{length}
+use borrow.Author.Needs.{needs}
+use Rattle.framing.proofs.Stored.{stored-refused}
+use Rattle.pcs.specs.Frame.{frame}
+use Rattle.pcs.specs.Steps.{withData}
+use Rattle.pcs.proofs.Allowed.{kind-most, sendable}
+use Rattle.pcs.proofs.Written.{frame-length, written}
+use Rattle.pcs.proofs.writer.write_message.Statement.{statement}
+use Rattle.pcs.proofs.writer.write_message.Tie as tie
+
+may-send-requires : tie.Need-may-send-requires
+may-send-requires c κs = search needs
+
+packed-length-requires : tie.Need-packed-length-requires
+packed-length-requires c κs = search needs
+
+add-end : tie.Need-add-end
+add-end c = search needs
+
+put-frame-requires : tie.Need-put-frame-requires
+put-frame-requires c κs =
+    let a = c .before .before .before .before .before .before .before .args in
+    let s = sendable (withData (a .message) (a .«data» .now)) (sym (c .before .before .before .before .may-send .ensures) ∙ c .before .before .before .if1 .taken) in
+    (kind-most (a .message .kind) (length (a .«data» .now)) (s .kind), s .most, c .before .before .packed-length .ensures, c .before .if2 .taken)
+
+same-length : tie.Need-same-length
+same-length c = search needs
+
+returns : tie.Need-returns
+returns c =
+    let a = c .before .before .before .before .before .before .before .before .before .before .args in
+    let m = withData (a .message) (a .«data» .now) in
+    let o = sym (c .before .before .before .before .before .before .before .may-send .ensures) ∙ c .before .before .before .before .before .before .if1 .taken in
+    let n = frame-length m ∙ ap (λ (k : ℕ). 11 + k) (sym (c .before .before .before .before .before .packed-length .ensures)) in
+    rw o (written m _ _ n (c .before .before .before .before .if2 .taken) (c .before .before .put-frame .ensures))
+
+returns-2 : tie.Need-returns-2
+returns-2 c =
+    let a = c .before .before .before .before .before .before .args in
+    let m = withData (a .message) (a .«data» .now) in
+    let o = sym (c .before .before .before .may-send .ensures) ∙ c .before .before .if1 .taken in
+    let n = frame-length m ∙ ap (λ (k : ℕ). 11 + k) (sym (c .before .packed-length .ensures)) in
+    rw o (sym (stored-refused (frame m) (a .out .now) 0 (omega arith)))
+
+returns-3 : tie.Need-returns-3
+returns-3 c = rw (sym (c .before .may-send .ensures) ∙ c .if1 .left)
+
+pub write-message-spec : {M : Type 1} → statement M
+write-message-spec =
+    tie.close
+    (tie.spec
+    may-send-requires
+    packed-length-requires
+    add-end
+    put-frame-requires
+    same-length
+    returns
+    returns-2
+    returns-3)

@@ -1,0 +1,60 @@
+-- PCS messages and their frames.
+use Prim.Native.Nat.{ℕ, _+_, _/_, _%_, _<_}
+use mathlib.Core.Bool.{Bool, _&&_, _||_}
+use mathlib.Core.List.{List, [], _∷_, _++_}
+use lib.ListN.{length}
+use lib.Dec.{eqb, leb}
+use Rattle.runs.specs.Runs.{Bytes}
+use Rattle.packing.specs.Seven.{sent}
+use Rattle.packing.specs.Packed.{packed}
+use Rattle.checksum.specs.Sum.{sumOf}
+
+pub record Message : Type 0 where
+  pub receiver : ℕ
+  pub sender : ℕ
+  pub kind : ℕ
+  pub number : ℕ
+  pub sender-port : ℕ
+  pub receiver-port : ℕ
+  pub payload : List ℕ
+
+-- the numbers are bytes, as a call's types have it
+pub record Typed (m : Message) : Type 0 where
+  pub receiver : m .receiver < 256
+  pub sender : m .sender < 256
+  pub kind : m .kind < 256
+  pub number : m .number < 256
+  pub sender-port : m .sender-port < 256
+  pub receiver-port : m .receiver-port < 256
+  pub payload : Bytes (m .payload)
+
+-- an address, a number or a port: 1 to 250; a receiver may also be 255, everybody
+abbrev pub plainOk : ℕ → Bool
+plainOk b = leb 1 b && leb b 250
+
+abbrev pub receiverOk : ℕ → Bool
+receiverOk b = plainOk b || eqb b 255
+
+-- kinds 0 plain, 1 asks acknowledgement, 2 positive, 3 negative; the latter two carry no data
+abbrev pub kindOk : ℕ → ℕ → Bool
+kindOk kind length = leb kind 1 || (leb kind 3 && eqb length 0)
+
+-- a message that may be sent
+abbrev pub ok : Message → Bool
+ok m =
+    receiverOk (m .receiver)
+    && (plainOk (m .sender)
+    && (plainOk (m .number) && (plainOk (m .sender-port) && (plainOk (m .receiver-port) && (kindOk (m .kind) (length (m .payload)) && leb (length (m .payload)) 1024)))))
+
+-- receiver, sender, info, number, length high and low in seven bits each, both ports; info is 4 plus the kind, the length that of the packed data
+abbrev pub header : Message → ℕ → List ℕ
+header m k =
+    m .receiver ∷ m .sender ∷ (4 + m .kind) ∷ m .number ∷ sent (k / 128) ∷ sent (k % 128) ∷ m .sender-port ∷ m .receiver-port ∷ []
+
+-- what the sum covers: the header and the packed data, as sent
+abbrev pub body : Message → List ℕ
+body m = header m (length (packed (m .payload))) ++ packed (m .payload)
+
+-- 253, the body, its sum, 254
+abbrev pub frame : Message → List ℕ
+frame m = 253 ∷ (body m ++ (sumOf (body m) ∷ 254 ∷ []))

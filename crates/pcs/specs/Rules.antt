@@ -1,0 +1,93 @@
+-- The rules of the PCS receiver: what each byte does, over the gathered bytes as a list, with no store.
+use Prim.Native.Nat.{ℕ, _+_, _-_, _*_, _%_}
+use mathlib.Core.Bool.{Bool, cond, _&&_}
+use mathlib.Core.List.{List, [], _∷_, _++_}
+use mathlib.Core.Option.{Option, none, some}
+use lib.ListN.{length, getD, take, drop}
+use lib.Dec.{eqb, leb, ltb}
+use Rattle.framing.specs.Segment.{Segment, noise, refused, accepted}
+use Rattle.packing.specs.Seven.{isSent}
+use Rattle.packing.specs.Unpacked.{unpacked}
+use Rattle.checksum.specs.Sum.{sumOf}
+use Rattle.pcs.specs.Frame.{Message, plainOk, receiverOk, kindOk}
+
+-- the store's size: a header of 8, at most 1,171 packed bytes and the sum
+abbrev pub size : ℕ
+size = 1180
+
+-- hunting; a frame is open, with the gathered bytes between the marks
+pub data Phase : Type 0 where
+  hunting : Phase
+  inside : List ℕ → Phase
+
+abbrev pub gathered : Phase → List ℕ
+gathered hunting = []
+gathered (inside g) = g
+
+-- the wire bytes that belong to no segment yet: those of the open frame
+abbrev pub held : Phase → List ℕ
+held hunting = []
+held (inside g) = 253 ∷ g
+
+-- the stated length, seven bits a byte; the packed bytes, between the header and the sum
+abbrev pub stated : List ℕ → ℕ
+stated g = getD g 4 0 % 128 * 128 + getD g 5 0 % 128
+
+abbrev pub packedPart : List ℕ → List ℕ
+packedPart g = take (length g - 9) (drop 8 g)
+
+-- info 12 to 15 asks for a CRC
+abbrev pub asksCrc : List ℕ → Bool
+asksCrc g = leb 12 (getD g 2 0) && leb (getD g 2 0) 15
+
+-- the last byte is the sum of those before it
+abbrev pub sumRight : List ℕ → Bool
+sumRight g = eqb (getD g (length g - 1) 0) (sumOf (take (length g - 1) g))
+
+-- addresses, number, ports, info (4 to 7), length bytes, and no stated length with kinds 2 and 3
+abbrev pub fieldsOk : List ℕ → Bool
+fieldsOk g =
+    receiverOk (getD g 0 0)
+    && (plainOk (getD g 1 0)
+    && (plainOk (getD g 3 0)
+    && (plainOk (getD g 6 0)
+    && (plainOk (getD g 7 0)
+    && (leb 4 (getD g 2 0) && (isSent (getD g 4 0) && (isSent (getD g 5 0) && kindOk (getD g 2 0 - 4) (stated g))))))))
+
+-- the message of gathered bytes, with its data
+abbrev pub messageWith : List ℕ → List ℕ → Message
+messageWith g d =
+    record {
+      receiver = getD g 0 0;
+      sender = getD g 1 0;
+      kind = getD g 2 0 - 4;
+      number = getD g 3 0;
+      sender-port = getD g 6 0;
+      receiver-port = getD g 7 0;
+      payload = d;
+    }
+
+-- 13 where the data is badly packed
+abbrev pub unpack : List ℕ → List ℕ → Option (List ℕ) → Segment Message
+unpack g wire none = refused 13 wire
+unpack g wire (some d) = accepted (messageWith g d)
+
+-- the end of a frame of these wire bytes: 6, 11, 8, 9, 10 (stated against present), 13, in this order
+abbrev pub judge : List ℕ → List ℕ → Segment Message
+judge g wire =
+    cond (ltb (length g) 9) (refused 6 wire)
+    (cond (asksCrc g) (refused 11 wire)
+    (cond (sumRight g)
+    (cond (fieldsOk g) (cond (eqb (stated g) (length g - 9)) (unpack g wire (unpacked (packedPart g))) (refused 10 wire)) (refused 9 wire))
+    (refused 8 wire)))
+
+-- one more byte is gathered, or 5 where it is one too many
+abbrev pub gather : List ℕ → ℕ → List ℕ → Phase × Option (Segment Message)
+gather g b wire = cond (ltb (length g) size) (inside (g ++ (b ∷ [])), none) (hunting, some (refused 5 wire))
+
+-- 253 always starts, with 4 where a frame is open; 254 ends an open frame
+abbrev pub cut : Phase → ℕ → Phase × Option (Segment Message)
+cut hunting b = cond (eqb b 253) (inside [], none) (hunting, some (noise (b ∷ [])))
+cut (inside g) b =
+    cond (eqb b 253) (inside [], some (refused 4 (253 ∷ g)))
+    (cond (eqb b 254) (hunting, some (judge g (253 ∷ g ++ (b ∷ [])))) (gather g b (253 ∷ g ++ (b ∷ []))))

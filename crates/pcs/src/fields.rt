@@ -1,0 +1,65 @@
+// The fields of a PCS frame.
+use super::Message;
+ghost use mathlib.Core.Path.{_≡_};
+ghost use mathlib.Core.Bool.{_&&_};
+ghost use Prim.Native.Nat.{_+_, _-_, _*_, _%_};
+ghost use lib.Dec.{leb};
+ghost use Rattle.pcs.specs.Frame.{plainOk, receiverOk, kindOk};
+ghost use Rattle.pcs.specs.Steps.{plainFieldsOk};
+
+pub const START: u8 = 253;
+
+pub const END: u8 = 254;
+
+// Whether an address, a number or a port is allowed.
+pub fn plain_ok(b: u8) -> bool
+    ensures { λ r. ⌜ r ≡ plainOk b ⌝ }
+{
+    1 <= b && b <= 250
+}
+
+// Whether a receiver is allowed: 255 is everybody.
+pub fn receiver_ok(b: u8) -> bool
+    ensures { λ r. ⌜ r ≡ receiverOk b ⌝ }
+{
+    plain_ok(b) || b == 255
+}
+
+// Whether a kind is known, and may go with so many data bytes or packed bytes.
+pub fn kind_ok(kind: u8, length: usize) -> bool
+    ensures { λ r. ⌜ r ≡ kindOk kind length ⌝ }
+{
+    kind <= 1 || (kind <= 3 && length == 0)
+}
+
+// Whether the addresses, the number and the ports are allowed.
+pub fn plain_fields_ok(message: Message) -> bool
+    ensures { λ r. ⌜ r ≡ plainFieldsOk message ⌝ }
+{
+    receiver_ok(message.receiver)
+        && plain_ok(message.sender)
+        && plain_ok(message.number)
+        && plain_ok(message.sender_port)
+        && plain_ok(message.receiver_port)
+}
+
+// Whether an info byte asks for a CRC.
+pub fn asks_crc(info: u8) -> bool
+    ensures { λ r. ⌜ r ≡ (leb 12 info && leb info 15) ⌝ }
+{
+    12 <= info && info <= 15
+}
+
+// The kind that an info byte gives.
+pub fn kind_of(info: u8) -> u8
+    ensures { λ r. ⌜ r ≡ info - 4 ⌝ }
+{
+    if info < 4 { 0 } else { info - 4 }
+}
+
+// The length that two bytes state, seven bits each.
+pub fn stated_by(high: u8, low: u8) -> usize
+    ensures { λ r. ⌜ r ≡ high % 128 * 128 + low % 128 ⌝ }
+{
+    (high % 128) as usize * 128 + (low % 128) as usize
+}

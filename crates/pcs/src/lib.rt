@@ -1,0 +1,317 @@
+// The PCS link of boards: writer and receiver.
+mod fields;
+mod writer;
+
+use framing::Answer;
+use framing::State;
+use framing::refusal;
+ghost use mathlib.Core.Path.{_≡_};
+ghost use mathlib.Core.List.{List, []};
+ghost use mathlib.Core.Option.{some};
+ghost use Prim.Native.Nat.{ℕ, _≤_};
+ghost use lib.ListN.{length, take};
+ghost use Rattle.runs.specs.Runs.{over};
+ghost use Rattle.framing.specs.Answer.{outcomeOf};
+ghost use Rattle.framing.specs.Writer.{writes};
+ghost use Rattle.framing.specs.Receiver.{feed};
+ghost use Rattle.framing.specs.Segment.{eventOf};
+ghost use Rattle.framing.specs.Link.{isEvent, told, stepOn, answered, answer};
+ghost use Rattle.pcs.specs.Frame.{ok, frame};
+ghost use Rattle.pcs.specs.Rules.{hunting, inside, size, fieldsOk, messageWith, judge, gather, cut};
+ghost use Rattle.pcs.specs.Contract.{phaseOf, frontOf, numbersOf, dataOf, link, toldOf, answerOf};
+ghost use Rattle.pcs.specs.Steps.{faultOf, toldWith, Answers, Open};
+
+// The least store of a receiver: a header of 8 bytes, at most 1,171 packed bytes, the sum.
+const SIZE: usize = 1180;
+
+// The numbers of a message. The data of an accepted one lie in the store from place 0.
+pub struct Message {
+    pub receiver: u8,
+    pub sender: u8,
+    pub kind: u8,
+    pub number: u8,
+    pub sender_port: u8,
+    pub receiver_port: u8,
+    pub length: usize,
+}
+
+pub enum Event {
+    Nothing,
+    Accepted(Message),
+    Refused(u8),
+}
+
+pub struct Received {
+    pub event: Event,
+    pub used: usize,
+    pub state: State,
+}
+
+// What a byte makes: an event or none, and the state after it.
+struct Stepped {
+    event: Event,
+    state: State,
+}
+
+// Writes the frame of a message at the start of the lent memory, and answers its length.
+pub fn write(
+    receiver: u8,
+    sender: u8,
+    kind: u8,
+    number: u8,
+    sender_port: u8,
+    receiver_port: u8,
+    data: &[u8],
+    out: &mut [u8],
+) -> Answer
+    ensures { λ r. ⌜ (outcomeOf r, now (out .exit)) ≡ writes ok frame (record { receiver = receiver; sender = sender; kind = kind; number = number; sender-port = «sender_port»; receiver-port = «receiver_port»; payload = now («data» .entry) }) (now (out .entry)) ⌝ }
+{
+    let message = Message {
+        receiver: receiver,
+        sender: sender,
+        kind: kind,
+        number: number,
+        sender_port: sender_port,
+        receiver_port: receiver_port,
+        length: data.len(),
+    };
+    writer::write_message(message, data, out)
+}
+
+// Hunting: the start mark opens a frame, any other byte is noise.
+fn hunt(state: State, byte: u8) -> Stepped
+    requires { ⌜ state .mode ≡ 0 ⌝ }
+    ensures { λ r. ⌜ Answers state (cut hunting byte) r ⌝ }
+{
+    if byte == fields::START {
+        Stepped {
+            event: Event::Nothing,
+            state: framing::reopen(state, 1, 0, 1),
+        }
+    } else {
+        Stepped {
+            event: Event::Nothing,
+            state: framing::add_noise(state, 1),
+        }
+    }
+}
+
+// One more byte of the frame is gathered, unless the size is reached.
+fn gather_byte(state: State, store: &mut [u8], byte: u8) -> Stepped
+    requires { ⌜ Open state (now store) ⌝ }
+    ensures stepped { λ r. ⌜ ((wire : List ℕ) → Answers state (gather (take (state .count) (now (store .entry))) byte wire) r) ⌝ }
+    ensures stored { λ r. ⌜ ((wire : List ℕ) → now (store .exit) ≡ over (frontOf (gather (take (state .count) (now (store .entry))) byte wire)) (now (store .entry))) ⌝ }
+{
+    let at = state.count;
+    if at < SIZE {
+        store[at] = byte;
+        Stepped {
+            event: Event::Nothing,
+            state: framing::hold(state, 1, at + 1),
+        }
+    } else {
+        Stepped {
+            event: Event::Refused(refusal::TOO_LONG),
+            state: framing::close(state),
+        }
+    }
+}
+
+// The numbers of a frame's gathered bytes; the length of its data is not known yet.
+fn head_of(gathered: &[u8]) -> Message
+    requires { ⌜ 9 ≤ length (now gathered) ⌝ }
+    ensures { λ r. ⌜ r ≡ numbersOf (messageWith (now (gathered .entry)) []) ⌝ }
+{
+    Message {
+        receiver: gathered[0],
+        sender: gathered[1],
+        kind: fields::kind_of(gathered[2]),
+        number: gathered[3],
+        sender_port: gathered[6],
+        receiver_port: gathered[7],
+        length: 0,
+    }
+}
+
+// Whether all fields are allowed, the length bytes and the kind with the stated length too.
+fn fields_ok(gathered: &[u8]) -> bool
+    requires { ⌜ 9 ≤ length (now gathered) ⌝ }
+    ensures { λ r. ⌜ r ≡ fieldsOk (now (gathered .entry)) ⌝ }
+{
+    let head = head_of(gathered);
+    let high = gathered[4];
+    let low = gathered[5];
+    fields::plain_fields_ok(head)
+        && 4 <= gathered[2]
+        && packing::is_sent(high)
+        && packing::is_sent(low)
+        && fields::kind_ok(head.kind, fields::stated_by(high, low))
+}
+
+// The number of the first test before unpacking that a frame's gathered bytes fail, 0 where they pass all.
+fn fault_of(gathered: &[u8]) -> u8
+    ensures { λ r. ⌜ r ≡ faultOf (now (gathered .entry)) ⌝ }
+{
+    let count = gathered.len();
+    if count < 9 {
+        return refusal::TOO_SHORT;
+    }
+    if fields::asks_crc(gathered[2]) {
+        return refusal::CRC_ASKED;
+    }
+    let end = count - 1;
+    if gathered[end] != checksum::sum(&gathered[..end]) {
+        return refusal::WRONG_CHECK;
+    }
+    if fields_ok(gathered) {
+        if fields::stated_by(gathered[4], gathered[5]) == count - 9 {
+            0
+        } else {
+            refusal::WRONG_LENGTH
+        }
+    } else {
+        refusal::WRONG_FIELD
+    }
+}
+
+// What is told of a frame once its data are unpacked, or badly packed.
+fn told_of(head: Message, unpacked: Answer) -> Event
+    ensures { λ r. ⌜ toldOf r ≡ toldWith head (outcomeOf unpacked) ⌝ }
+{
+    match unpacked {
+        Answer::Done(length) => Event::Accepted(Message {
+            receiver: head.receiver,
+            sender: head.sender,
+            kind: head.kind,
+            number: head.number,
+            sender_port: head.sender_port,
+            receiver_port: head.receiver_port,
+            length: length,
+        }),
+        Answer::Refused(number) => Event::Refused(number),
+    }
+}
+
+// The end of a frame with so many gathered bytes. Its numbers are read before unpacking overwrites them.
+fn judge_frame(store: &mut [u8], count: usize) -> Event
+    requires { ⌜ count ≤ length (now store) ⌝ }
+    ensures told { λ r. ⌜ ((wire : List ℕ) → toldOf r ≡ told link (eventOf (some (judge (take count (now (store .entry))) wire)))) ⌝ }
+    ensures stored { λ r. ⌜ ((wire : List ℕ) → now (store .exit) ≡ over (frontOf (hunting, some (judge (take count (now (store .entry))) wire))) (now (store .entry))) ⌝ }
+{
+    let fault = fault_of(&store[..count]);
+    if fault != 0 {
+        return Event::Refused(fault);
+    }
+    let head = head_of(&store[..count]);
+    let unpacked = packing::unpack_in_place(store, 8, count - 9);
+    told_of(head, unpacked)
+}
+
+// An open frame: the start mark opens the next one, the end mark ends it, any other byte is gathered.
+fn inside_byte(state: State, store: &mut [u8], byte: u8) -> Stepped
+    requires { ⌜ Open state (now store) ⌝ }
+    ensures stepped { λ r. ⌜ Answers state (cut (inside (take (state .count) (now (store .entry)))) byte) r ⌝ }
+    ensures stored { λ r. ⌜ now (store .exit) ≡ over (frontOf (cut (inside (take (state .count) (now (store .entry)))) byte)) (now (store .entry)) ⌝ }
+{
+    if byte == fields::START {
+        return Stepped {
+            event: Event::Refused(refusal::NEW_START),
+            state: framing::reopen(state, 1, 0, 1),
+        };
+    }
+    if byte == fields::END {
+        let event = judge_frame(store, state.count);
+        return Stepped {
+            event: event,
+            state: framing::close(state),
+        };
+    }
+    gather_byte(state, store, byte)
+}
+
+// One byte, in any mode.
+fn step(state: State, store: &mut [u8], byte: u8) -> Stepped
+    requires { ⌜ (state .count ≤ size) × (size ≤ length (now store)) ⌝ }
+    ensures stepped { λ r. ⌜ Answers state (cut (phaseOf state (now (store .entry))) byte) r ⌝ }
+    ensures stored { λ r. ⌜ now (store .exit) ≡ over (frontOf (cut (phaseOf state (now (store .entry))) byte)) (now (store .entry)) ⌝ }
+{
+    if state.mode == 0 {
+        hunt(state, byte)
+    } else {
+        inside_byte(state, store, byte)
+    }
+}
+
+// Whether there is an event.
+fn made(event: Event) -> bool
+    ensures { λ r. ⌜ r ≡ isEvent (toldOf event) ⌝ }
+{
+    match event {
+        Event::Nothing => false,
+        Event::Accepted(_) => true,
+        Event::Refused(_) => true,
+    }
+}
+
+// The bytes of a piece, up to and including the first that makes an event.
+fn scan(state: State, store: &mut [u8], piece: &[u8]) -> Received
+    requires { ⌜ (state .count ≤ size) × (size ≤ length (now store)) ⌝ }
+    ensures { λ r. ⌜ answerOf r (now (store .exit)) ≡ answered link (feed (stepOn link) (state, now (store .entry)) (now (piece .entry))) ⌝ }
+{
+    let mut current = state;
+    let mut i = 0;
+    while i < piece.len() {
+        let s = step(current, store, piece[i]);
+        let next = s.state;
+        current = next;
+        i += 1;
+        let event = s.event;
+        if made(event) {
+            return Received {
+                event: event,
+                used: i,
+                state: current,
+            };
+        }
+    }
+    Received {
+        event: Event::Nothing,
+        used: i,
+        state: current,
+    }
+}
+
+// A call of the receiver: uses the bytes of the piece up to and including the first that makes an event, else all.
+pub fn receive(state: State, store: &mut [u8], piece: &[u8]) -> Received
+    ensures { λ r. ⌜ answerOf r (now (store .exit)) ≡ answer link (state, now (store .entry)) (now (piece .entry)) ⌝ }
+{
+    if framing::is_known(state, 2, 1, SIZE) {
+        if SIZE <= store.len() {
+            scan(state, store, piece)
+        } else {
+            Received {
+                event: Event::Refused(refusal::STORE_SHORT),
+                used: 0,
+                state: state,
+            }
+        }
+    } else {
+        Received {
+            event: Event::Refused(refusal::UNKNOWN_STATE),
+            used: 0,
+            state: state,
+        }
+    }
+}
+
+// The data of a message, as a part of the store; an empty part where it does not lie in the store.
+pub fn data(store: &[u8], message: Message) -> &[u8]
+    ensures { λ r. ⌜ now r ≡ dataOf (now (store .entry)) message ⌝ }
+{
+    let length = message.length;
+    if length <= store.len() {
+        &store[0..length]
+    } else {
+        &store[0..0]
+    }
+}

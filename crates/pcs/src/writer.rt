@@ -1,0 +1,80 @@
+// The frames of PCS messages.
+use super::Message;
+use super::fields;
+use framing::Answer;
+use framing::refusal;
+ghost use mathlib.Core.Path.{_≡_};
+ghost use mathlib.Core.List.{[], _∷_};
+ghost use Prim.Native.Nat.{_+_, _-_, _≤_, _<_};
+ghost use lib.ListN.{length, take, drop};
+ghost use lib.Seq.{sets};
+ghost use Rattle.framing.specs.Answer.{outcomeOf};
+ghost use Rattle.framing.specs.Writer.{writes};
+ghost use Rattle.packing.specs.Packed.{packedLength};
+ghost use Rattle.checksum.specs.Sum.{sumOf};
+ghost use Rattle.pcs.specs.Frame.{ok, header, frame};
+ghost use Rattle.pcs.specs.Steps.{withData};
+
+// Whether a message may be sent.
+fn may_send(message: Message, data: &[u8]) -> bool
+    ensures { λ r. ⌜ r ≡ ok (withData message (now («data» .entry))) ⌝ }
+{
+    fields::plain_fields_ok(message)
+        && fields::kind_ok(message.kind, data.len())
+        && data.len() <= 1024
+}
+
+// Stores the start mark and the header of a message with so many packed bytes.
+fn put_header(message: Message, packed: usize, out: &mut [u8])
+    requires { ⌜ (message .kind ≤ 3) × (packed < 16384) × (9 ≤ length (now out)) ⌝ }
+    ensures { λ r. ⌜ now (out .exit) ≡ sets (now (out .entry)) 0 (253 ∷ header (withData message []) packed) ⌝ }
+{
+    let high = packing::sent_as((packed / 128) as u8);
+    let low = packing::sent_as((packed % 128) as u8);
+    out[0] = fields::START;
+    out[1] = message.receiver;
+    out[2] = message.sender;
+    out[3] = 4 + message.kind;
+    out[4] = message.number;
+    out[5] = high;
+    out[6] = low;
+    out[7] = message.sender_port;
+    out[8] = message.receiver_port;
+}
+
+// Stores the sum of the bytes behind the start mark, and the end mark, from a place on.
+fn put_end(out: &mut [u8], at: usize)
+    requires { ⌜ (1 ≤ at) × (at + 2 ≤ length (now out)) ⌝ }
+    ensures { λ r. ⌜ now (out .exit) ≡ sets (now (out .entry)) at (sumOf (take (at - 1) (drop 1 (now (out .entry)))) ∷ 254 ∷ []) ⌝ }
+{
+    out[at] = checksum::sum(&out[1..at]);
+    out[at + 1] = fields::END;
+}
+
+// Stores a frame at the start, with so many packed bytes.
+fn put_frame(message: Message, data: &[u8], packed: usize, out: &mut [u8])
+    requires { ⌜ (message .kind ≤ 3) × (length (now «data») ≤ 1024) × (packed ≡ packedLength (length (now «data»))) × (11 + packed ≤ length (now out)) ⌝ }
+    ensures { λ r. ⌜ now (out .exit) ≡ sets (now (out .entry)) 0 (frame (withData message (now («data» .entry)))) ⌝ }
+{
+    put_header(message, packed, out);
+    packing::pack_into(data, out, 9);
+    put_end(out, 9 + packed);
+}
+
+// Writes the frame of a message at the start of the lent memory, and answers its length.
+pub fn write_message(message: Message, data: &[u8], out: &mut [u8]) -> Answer
+    ensures { λ r. ⌜ (outcomeOf r, now (out .exit)) ≡ writes ok frame (withData message (now («data» .entry))) (now (out .entry)) ⌝ }
+{
+    if may_send(message, data) {
+        let packed = packing::packed_length(data);
+        let end = 11 + packed;
+        if end <= out.len() {
+            put_frame(message, data, packed, out);
+            Answer::Done(end)
+        } else {
+            Answer::Refused(refusal::OUTPUT_SHORT)
+        }
+    } else {
+        Answer::Refused(refusal::UNSENDABLE)
+    }
+}

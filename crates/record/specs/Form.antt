@@ -1,0 +1,61 @@
+-- 01, "Fare records": the decision over the type, the fields of a record's head, and which records are well formed.
+use Prim.Native.Nat.{ℕ, _+_, _*_}
+use mathlib.Core.List.{List}
+use mathlib.Core.Bool.{Bool, true, false, cond, _&&_}
+use lib.ListN.{length, getD, take, drop}
+use lib.Dec.{leb, ltb, eqb}
+use Rattle.runs.specs.Number.{number}
+use Rattle.record.specs.declared.Form.{Form}
+use Rattle.record.specs.declared.Head.{Head}
+
+abbrev pub form : ℕ → Bool → ℕ → Form
+form s b l = record { size = s; signed = b; limit = l }
+
+-- element size, signedness, and limit of address plus count: 1 byte, 2 word, 3 integer, 4 long integer, 5 double word; any other number has size and limit 0
+unfoldable pub formOf : ℕ → Form
+formOf kind =
+    cond (eqb kind 1) (form 1 false 2000)
+    (cond (eqb kind 2) (form 2 false 1000)
+    (cond (eqb kind 3) (form 2 true 1000)
+    (cond (eqb kind 4) (form 4 true 500)
+    (cond (eqb kind 5) (form 4 false 500)
+    (form 0 false 0)))))
+
+abbrev pub sizeOf : ℕ → ℕ
+sizeOf kind = formOf kind .size
+
+abbrev pub signedOf : ℕ → Bool
+signedOf kind = formOf kind .signed
+
+abbrev pub limitOf : ℕ → ℕ
+limitOf kind = formOf kind .limit
+
+-- the type
+abbrev pub kindOf : List ℕ → ℕ
+kindOf r = getD r 0 0
+
+-- the address, two bytes
+abbrev pub addressOf : List ℕ → ℕ
+addressOf r = number (take 2 (drop 1 r))
+
+-- the count, two bytes
+abbrev pub countOf : List ℕ → ℕ
+countOf r = number (take 2 (drop 3 r))
+
+-- a known type, at least one element, address plus count within the type's limit, and a whole length of at most 1,024
+unfoldable pub allowed : ℕ → ℕ → ℕ → Bool
+allowed kind address count =
+    ltb 0 (sizeOf kind) && (ltb 0 count && (leb (address + count) (limitOf kind) && leb (5 + sizeOf kind * count) 1024))
+
+-- a whole head, whose fields are allowed, and exactly the elements that it counts
+unfoldable pub wellFormed : List ℕ → Bool
+wellFormed r =
+    leb 5 (length r)
+    && (allowed (kindOf r) (addressOf r) (countOf r) && eqb (length r) (5 + sizeOf (kindOf r) * countOf r))
+
+abbrev pub head : ℕ → ℕ → Head
+head k n = record { kind = k; count = n }
+
+-- the type and the count of a well-formed record; of any other run, 0 and 0
+unfoldable pub headOf : List ℕ → Head
+headOf r = cond (wellFormed r) (head (kindOf r) (countOf r)) (head 0 0)
