@@ -40,11 +40,6 @@ judge-noise g wire n =
     P s = noiseAfter (some s) n ≡ n
 
 -- the count stays within the size
-pub known-count : (s : State) → knownState 4 2 size s ≡ true → s .count ≤ size
-known-count s h =
-    by-ltb (λ (t : Bool). t ≡ true → s .count ≤ size) (s .mode) 2
-    (λ _ e. let z = eqb-true (s .count) 0 e in omega arith) (λ _ e. leb-true (s .count) size e) (and-both (ltb (s .mode) 4) _ h .1)
-
 phase-good : (s : State) (store : List ℕ) → s .count ≤ size → Good (phaseOf s store)
 phase-good s store h = by-eqb Good (s .mode) 0 (λ _. omega arith) (λ _. by-eqb Good (s .mode) 1 (λ _. omega arith) (λ _. simp length-take (omega arith)))
 

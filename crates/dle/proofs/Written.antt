@@ -16,11 +16,6 @@ use Rattle.escape.proofs.Dle.{dle-lawful}
 use Rattle.dle.specs.Frame.{enclose}
 use Rattle.dle.specs.Rules.{size}
 
--- what a call that stores a run leaves where the run fits
-pub stored-is : (run memory after : List ℕ) (at : ℕ) (o : Outcome ℕ) → (o, after) ≡ storedAt run memory at → at + length run ≤ length memory
-    → after ≡ sets memory at run
-stored-is run memory after at o e h = ap (λ (w : Outcome ℕ × List ℕ). w .1) (e ∙ stored-done run memory at h)
-
 module _ (header rest : List ℕ) where
   parts : enclose (header ++ rest) ≡ (0x10 ∷ 0x02 ∷ []) ++ (hide dle header ++ (hide dle rest ++ (0x10 ∷ 0x03 ∷ [])))
   parts =
@@ -34,11 +29,6 @@ module _ (header rest : List ℕ) where
 
   pub frame-length : length (enclose (header ++ rest)) ≡ 2 + length (hide dle header) + length (hide dle rest) + 2
   frame-length = ap length parts ∙ simp length-append (omega arith)
-
-  -- what a writer answers and leaves
-  pub frame-done : (memory after : List ℕ) (n : ℕ) → n ≡ length (enclose (header ++ rest)) → n ≤ length memory
-      → after ≡ sets memory 0 (enclose (header ++ rest)) → (done n, after) ≡ storedAt (enclose (header ++ rest)) memory 0
-  frame-done memory after n e h a = (λ i. (done (e i), a i)) ∙ sym (stored-done (enclose (header ++ rest)) memory 0 (omega arith))
 
   module _ (memory marked headed filled : List ℕ) (place end : ℕ) (place-is : place ≡ 2 + length (hide dle header))
       (end-is : end ≡ place + length (hide dle rest)) where

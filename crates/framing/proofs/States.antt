@@ -1,15 +1,16 @@
 -- The shared state rule keeps a state with its phase.
-use Prim.Native.Nat.{ℕ, _+_, _%_, _^_, _<_}
+use Prim.Native.Nat.{ℕ, _+_, _%_, _^_, _<_, _≤_}
 use mathlib.Core.Path.{_≡_, refl, ap}
 use mathlib.Core.Bool.{Bool, true, false, cond}
 use mathlib.Core.List.{List, [], _∷_, _++_}
 use mathlib.Core.Option.{Option, none, some}
 use native.Mathlib.Omega.{arith}
 use lib.ListN.{length, length-append}
-use lib.Dec.{eqb}
-use borrow.Author.Tests.{eq-eqb}
+use lib.Dec.{eqb, ltb}
+use borrow.Author.Tests.{eq-eqb, eqb-true, leb-true}
+use Rattle.runs.proofs.Cases.{by-ltb, and-both}
 use Rattle.framing.specs.Segment.{Segment, noiseAfter}
-use Rattle.framing.specs.State.{openAfter, stateAfter, stateOf}
+use Rattle.framing.specs.State.{knownState, openAfter, stateAfter, stateOf}
 use Rattle.framing.specs.declared.State.{State}
 use Rattle.framing.proofs.Segments.{wireOpt}
 
@@ -39,3 +40,9 @@ module _ {P M : Type 0} (frame : M → List ℕ) (modeOf : P → ℕ) (gathered 
       → stateAfter modeOf gathered held s q o ≡ stateOf modeOf gathered held q (noiseAfter o (s .noise))
   shared-leaves s q none e = rw (eq-eqb (s .mode) 0 e)
   shared-leaves s q (some x) e = refl
+
+-- a state that does not give 12 counts no more than the link's size
+pub known-count : (modes hunting size : ℕ) (s : State) → knownState modes hunting size s ≡ true → s .count ≤ size
+known-count modes hunting size s h =
+    by-ltb (λ (t : Bool). t ≡ true → s .count ≤ size) (s .mode) hunting
+    (λ _ e. let z = eqb-true (s .count) 0 e in omega arith) (λ _ e. leb-true (s .count) size e) (and-both (ltb (s .mode) modes) _ h .1)

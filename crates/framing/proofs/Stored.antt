@@ -1,6 +1,7 @@
 -- What a call that stores a run answers and leaves, for its callers.
 use Prim.Native.Nat.{ℕ, _+_, _≤_, _<_}
-use mathlib.Core.Path.{_≡_}
+use mathlib.Core.Path.{_≡_, ap, sym, _∙_}
+use native.Mathlib.Omega.{arith}
 use mathlib.Core.List.{List}
 use lib.ListN.{length}
 use lib.Seq.{sets}
@@ -15,3 +16,10 @@ module _ (run memory : List ℕ) (at : ℕ) where
   pub stored-refused : length memory < at + length run → storedAt run memory at ≡ (refused 2, memory)
   unfolding storedAt
   stored-refused h = rw (lt-leb (at + length run) (length memory) h)
+
+  -- what such a call leaves, and what a caller that stores the run itself answers
+  pub stored-is : (after : List ℕ) (o : Outcome ℕ) → (o, after) ≡ storedAt run memory at → at + length run ≤ length memory → after ≡ sets memory at run
+  stored-is after o e h = ap (λ (w : Outcome ℕ × List ℕ). w .1) (e ∙ stored-done h)
+
+  pub stored-so : (after : List ℕ) (n : ℕ) → n ≡ length run → at + n ≤ length memory → after ≡ sets memory at run → (done n, after) ≡ storedAt run memory at
+  stored-so after n e h a = (λ i. (done (e i), a i)) ∙ sym (stored-done (omega arith))

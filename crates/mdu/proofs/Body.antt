@@ -21,7 +21,8 @@ use Rattle.mdu.specs.Contract.{knownState, stateAfter, link}
 use Rattle.mdu.specs.Steps.{ToCome, Leads}
 use Rattle.mdu.specs.declared.State.{State}
 use Rattle.mdu.proofs.Known.{bodyState, body-known}
-use Rattle.mdu.proofs.Store.{more-count, more-over, tail-goes-on}
+use Rattle.runs.proofs.Run.{more-count, more-over}
+use Rattle.mdu.proofs.Store.{tail-goes-on}
 
 module _ (n k : ℕ) where
   body-step : (at o : ℕ) (store : List ℕ) (b : ℕ) → 6 ≤ at → at < 7 + k → at < length store

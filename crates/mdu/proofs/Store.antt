@@ -16,12 +16,6 @@ use Rattle.mdu.specs.Rules.{hunting, head, tail, sentCheck, enter, finis
 use Rattle.mdu.specs.Contract.{link}
 
 module _ (store : List ℕ) (at b : ℕ) where
-  pub more-count : at ≤ length store → length (take at store ++ (b ∷ [])) ≡ at + 1
-  more-count h = length-append (take at store) (b ∷ []) ∙ rw (length-take-le at store h)
-
-  pub more-over : at < length store → set store at b ≡ over (take at store ++ (b ∷ [])) store
-  more-over h = rw (more-count (omega arith), add-one) (set-split store at b h ∙ sym (append-snoc (take at store) b (drop (suc at) store)))
-
   pub more-take : at < length store → take (at + 1) (set store at b) ≡ take at store ++ (b ∷ [])
   more-take h = rw add-one (take-suc-set store at b h)
 

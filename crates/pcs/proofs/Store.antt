@@ -22,12 +22,6 @@ use Rattle.pcs.specs.Steps.{Answers}
 use Rattle.pcs.specs.declared.Stepped.{Stepped}
 
 module _ (store : List ℕ) (at : ℕ) where
-  pub more-count : (b : ℕ) → at ≤ length store → length (take at store ++ (b ∷ [])) ≡ at + 1
-  more-count b h = length-append (take at store) (b ∷ []) ∙ rw (length-take-le at store h)
-
-  pub more-over : (b : ℕ) → at < length store → set store at b ≡ over (take at store ++ (b ∷ [])) store
-  more-over b h = rw (more-count b (omega arith), add-one) (set-split store at b h ∙ sym (append-snoc (take at store) b (drop (suc at) store)))
-
   -- the packed bytes of the first so many of a store
   pub packed-at : 9 ≤ at → at ≤ length store → packedPart (take at store) ≡ take (at - 9) (drop 8 store)
   packed-at l h =
@@ -43,12 +37,6 @@ pub hunting-store : (store : List ℕ) (b : ℕ) → over (frontOf (cut hunting 
 hunting-store store b = by-eqb (λ (r : Phase × Option (Segment Frame.Message)). over (frontOf r) store ≡ store) b 253 (λ _. refl) (λ _. refl)
 
 -- the count stays within the size
-pub known-count : (s : State) → knownState 2 1 size s ≡ true → s .count ≤ size
-known-count s h =
-    by-ltb (λ (t : Bool). t ≡ true → s .count ≤ size) (s .mode) 1
-    (λ _ e. let n = eqb-true (s .count) 0 e in omega arith)
-    (λ _ e. leb-true (s .count) size e) (and-both (ltb (s .mode) 2) _ h .1)
-
 cut-short : (p : Phase) (b : ℕ) → length (gathered p) ≤ size → length (gathered (cut p b .0)) ≤ size
 cut-short hunting b h = by-eqb (λ (r : Phase × Option (Segment Frame.Message)). length (gathered (r .0)) ≤ size) b 253 (λ _. omega arith) (λ _. omega arith)
 cut-short (inside g) b h =

@@ -29,6 +29,10 @@ every-append P (b ∷ u) v hu hv (suc i) = every-append P u v (λ j. hu (suc j))
 pub bytes-append : (u v : List ℕ) → Bytes u → Bytes v → Bytes (u ++ v)
 bytes-append u v hu hv = every-append (λ b. b < 256) u v hu hv
 
+pub bytes-one : (b : ℕ) → b < 256 → Bytes (b ∷ [])
+bytes-one b h zero = h
+bytes-one b h (suc i) = lit< tt
+
 pub bytes-take : (n : ℕ) (u : List ℕ) → Bytes u → Bytes (take n u)
 bytes-take zero u h i = lit< tt
 bytes-take (suc n) [] h i = lit< tt

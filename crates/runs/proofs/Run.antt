@@ -2,11 +2,12 @@
 -- what is still to be stored, is the whole run.
 use mathlib.Core.Path.{_≡_, refl, sym, ap, ap₂, _∙_}
 use mathlib.Core.List.{List, [], _∷_, _++_, append-nil, append-assoc}
-use Prim.Native.Nat.{ℕ, suc, _+_, _≤_}
+use Prim.Native.Nat.{ℕ, suc, _+_, _≤_, _<_}
 use native.Mathlib.Nat.{add-zero, zero-add}
+use native.Mathlib.Numerals.{add-one}
 use native.Mathlib.Omega.{arith}
-use lib.ListN.{length, take, drop, getD, set, length-append}
-use lib.Seq.{sets, sets-eq, length-sets, length-take-le, take-append-seam, drop-at, drop-set-lt, getD-drop}
+use lib.ListN.{length, take, drop, getD, set, length-append, take-append-drop}
+use lib.Seq.{sets, sets-eq, length-sets, length-take-le, take-append-seam, drop-at, drop-set-lt, getD-drop, set-split, append-snoc}
 use Rattle.runs.specs.Runs.{over}
 
 module _ {A : Type 0} where
@@ -30,6 +31,17 @@ module _ {A : Type 0} where
       ap (λ (x : List A). take (length v) (drop at x)) (sets-eq v l at h ∙ append-assoc (take at l) v (drop (at + length v) l))
       ∙ ap (take (length v)) (drop-at (take at l) (v ++ drop (at + length v) l) at (length-take-le at l (omega arith)))
       ∙ take-append-seam v (drop (at + length v) l)
+
+  -- the first k elements of memory and one more behind them, laid over it: that one is stored
+  pub more-count : (l : List A) (k : ℕ) (b : A) → k ≤ length l → length (take k l ++ (b ∷ [])) ≡ k + 1
+  more-count l k b h = length-append (take k l) (b ∷ []) ∙ rw (length-take-le k l h)
+
+  pub more-over : (l : List A) (k : ℕ) (b : A) → k < length l → set l k b ≡ over (take k l ++ (b ∷ [])) l
+  more-over l k b h = rw (more-count l k b (omega arith), add-one) (set-split l k b h ∙ sym (append-snoc (take k l) b (drop (suc k) l)))
+
+  -- and nothing changes where they are laid over it alone
+  pub same-over : (l : List A) (k : ℕ) → k ≤ length l → l ≡ over (take k l) l
+  same-over l k h = rw (length-take-le k l h) (sym (take-append-drop k l))
 
   -- out is d with the first n elements of `whole` stored from place at on, and rest are the others. The last three fields are facts
   -- on lengths, for `omega` to find.

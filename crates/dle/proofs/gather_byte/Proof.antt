@@ -5,7 +5,7 @@ use mathlib.Core.Path.{refl}
 use lib.ListN.{length, take}
 use lib.Seq.{length-take-le}
 use Rattle.dle.specs.Rules.{size}
-use Rattle.dle.proofs.Store.{more-count, more-over}
+use Rattle.runs.proofs.Run.{more-count, more-over}
 use Rattle.dle.proofs.gather_byte.Statement.{statement}
 use Rattle.dle.proofs.gather_byte.Tie as tie
 

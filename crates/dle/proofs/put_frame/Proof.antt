@@ -1,6 +1,7 @@
 use borrow.Author.Needs.{needs}
 use native.Mathlib.Omega.{arith}
-use Rattle.dle.proofs.Written.{stored-is, frame-stored}
+use Rattle.dle.proofs.Written.{frame-stored}
+use Rattle.framing.proofs.Stored.{stored-is}
 use Rattle.dle.proofs.put_frame.Statement.{statement}
 use Rattle.dle.proofs.put_frame.Tie as tie
 
@@ -28,7 +29,7 @@ returns c =
     let fills = c .before .before .before .before .before .before .dle-hide-into2 in
     let ends = c .before .before .put-mark2 in
     frame-stored (a .header .now) (a .«data» .now) (a .out .now) _ _ _ (a .place) (a .end) (s .pre .0) (s .pre .1) _ (marks .ensures)
-    (stored-is _ _ _ 2 _ (heads .ensures) (omega arith)) (stored-is _ _ _ (a .place) _ (fills .ensures) (omega arith)) (ends .ensures)
+    (stored-is _ _ 2 _ _ (heads .ensures) (omega arith)) (stored-is _ _ (a .place) _ _ (fills .ensures) (omega arith)) (ends .ensures)
 
 pub put-frame-spec : {M : Type 1} → statement M
 put-frame-spec =

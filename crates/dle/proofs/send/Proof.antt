@@ -2,9 +2,9 @@ use borrow.Author.Needs.{needs}
 use native.Mathlib.Omega.{arith}
 use mathlib.Core.Path.{sym}
 use mathlib.Core.List.{_++_}
-use Rattle.framing.proofs.Stored.{stored-refused}
+use Rattle.dle.proofs.Written.{hidden-short, frame-length}
 use Rattle.dle.specs.Frame.{enclose}
-use Rattle.dle.proofs.Written.{hidden-short, frame-length, frame-done}
+use Rattle.framing.proofs.Stored.{stored-so, stored-refused}
 use Rattle.dle.proofs.send.Statement.{statement}
 use Rattle.dle.proofs.send.Tie as tie
 
@@ -39,7 +39,7 @@ returns : tie.Need-returns
 returns c =
     let a = c .before .before .before .before .before .before .before .before .before .before .args in
     let t = c .before .before .before .before in
-    frame-done (a .header .now) (a .«data» .now) (a .out .now) _ _
+    stored-so (enclose (a .header .now ++ a .«data» .now)) (a .out .now) 0 _ _
     (omega (arith, frame-length (a .header .now) (a .«data» .now), t .before .dle-hidden-length2 .ensures, t .before .before .dle-hidden-length .ensures))
     (omega (arith, t .if1 .taken)) (c .before .before .put-frame .ensures)
 

@@ -3,7 +3,7 @@ use native.Mathlib.Omega.{arith}
 use lib.Seq.{length-take-le}
 use borrow.Author.Tests.{lt-ltb, le-ltb, ne-eqb}
 use borrow.Author.Needs.{needs}
-use Rattle.pcs.proofs.Store.{more-count, more-over}
+use Rattle.runs.proofs.Run.{more-count, more-over}
 use Rattle.pcs.proofs.gather_byte.Statement.{statement}
 use Rattle.pcs.proofs.gather_byte.Tie as tie
 

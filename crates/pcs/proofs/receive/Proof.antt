@@ -1,7 +1,7 @@
 use mathlib.Core.Path.{sym, _∙_}
 use borrow.Author.Tests.{le-leb, lt-leb}
 use borrow.Author.Needs.{needs}
-use Rattle.pcs.proofs.Store.{known-count}
+use Rattle.framing.proofs.States.{known-count}
 use Rattle.pcs.proofs.receive.Statement.{statement}
 use Rattle.pcs.proofs.receive.Tie as tie
 
@@ -11,7 +11,7 @@ is-known-requires c κs = search needs
 scan-requires : tie.Need-scan-requires
 scan-requires c κs =
     let k = c .before .before .before in
-    (known-count (k .before .before .before .args .state) (sym (k .is-known .ensures) ∙ c .before .before .if1 .taken), c .before .if2 .taken)
+    (known-count 2 1 1180 (k .before .before .before .args .state) (sym (k .is-known .ensures) ∙ c .before .before .if1 .taken), c .before .if2 .taken)
 
 same-length : tie.Need-same-length
 same-length c = search needs

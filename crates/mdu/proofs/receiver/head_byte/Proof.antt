@@ -1,7 +1,8 @@
 use native.Mathlib.Omega.{arith}
 use mathlib.Core.Path.{refl, sym, subst}
 use Rattle.mdu.specs.Steps.{Answers}
-use Rattle.mdu.proofs.Store.{more-count, more-over, head-enters, head-goes-on}
+use Rattle.runs.proofs.Run.{more-count, more-over}
+use Rattle.mdu.proofs.Store.{head-enters, head-goes-on}
 use Rattle.mdu.proofs.Steps.{answers-more}
 use borrow.Author.Needs.{needs}
 use Rattle.mdu.proofs.receiver.head_byte.Statement.{statement}

@@ -1,7 +1,7 @@
 use borrow.Author.Tests.{eq-eqb, ne-eqb}
 use native.Mathlib.Omega.{arith}
 use mathlib.Core.Path.{refl}
-use Rattle.mdu.proofs.Store.{more-over}
+use Rattle.runs.proofs.Run.{more-over}
 use borrow.Author.Needs.{needs}
 use Rattle.mdu.proofs.receiver.hunt.Statement.{statement}
 use Rattle.mdu.proofs.receiver.hunt.Tie as tie

@@ -1,7 +1,8 @@
 use native.Mathlib.Omega.{arith}
 use Prim.Native.Nat.{_+_}
 use lib.ListN.{take, set}
-use Rattle.mdu.proofs.Store.{more-over, tail-finishes}
+use Rattle.runs.proofs.Run.{more-over}
+use Rattle.mdu.proofs.Store.{tail-finishes}
 use Rattle.mdu.proofs.Steps.{answers-finish}
 use borrow.Author.Needs.{needs}
 use Rattle.mdu.proofs.receiver.last_byte.Statement.{statement}
