@@ -1,17 +1,14 @@
 -- What the receiver's steps and its loop need of the rules.
 use Prim.Native.Nat.{ℕ, _-_, _≤_}
 use mathlib.Core.Path.{_≡_, refl, sym, subst}
-use mathlib.Core.Bool.{Bool, true}
 use mathlib.Core.List.{List}
 use mathlib.Core.Option.{Option, some}
 use native.Mathlib.Omega.{arith}
-use lib.Dec.{ltb}
 use lib.ListN.{length, getD, length-take}
-use borrow.Author.Tests.{eqb-true, leb-true}
 use Rattle.runs.specs.Runs.{over}
-use Rattle.runs.proofs.Cases.{by-eqb, by-ltb, and-both}
+use Rattle.runs.proofs.Cases.{by-eqb, by-ltb}
 use Rattle.framing.specs.Segment.{Segment, noiseAfter}
-use Rattle.framing.specs.State.{knownState, stateAfter}
+use Rattle.framing.specs.State.{stateAfter}
 use Rattle.framing.specs.declared.State.{State}
 use Rattle.dle.specs.Frame.{Message}
 use Rattle.dle.specs.Rules.{Phase, hunting, half, size, gathered, held, judge, cut}

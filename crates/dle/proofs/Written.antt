@@ -6,8 +6,6 @@ use native.Mathlib.Omega.{arith}
 use lib.ListN.{length, length-append}
 use lib.Seq.{sets}
 use Rattle.runs.proofs.Run.{sets-append}
-use Rattle.framing.specs.Answer.{Outcome, done, storedAt}
-use Rattle.framing.proofs.Stored.{stored-done}
 use Rattle.escape.specs.Code.{hide}
 use Rattle.escape.specs.Dle.{dle}
 use Rattle.runs.proofs.Each.{each-append}

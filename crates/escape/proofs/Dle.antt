@@ -3,8 +3,12 @@ use Prim.Native.Nat.{ℕ}
 use mathlib.Core.Path.{_≡_, refl, ap, sym, _∙_}
 use mathlib.Core.List.{List, [], _∷_, _++_}
 use native.Mathlib.Omega.{arith}
+use lib.Dec.{lit<}
 use borrow.Author.Tests.{ne-eqb}
+use Rattle.runs.specs.Runs.{Bytes}
+use Rattle.runs.proofs.Bytes.{bytes-one, bytes-two}
 use Rattle.runs.proofs.Cases.{by-eqb}
+use Rattle.runs.proofs.Each.{each-bytes}
 use Rattle.escape.specs.Code.{hide, unhide}
 use Rattle.runs.specs.Runs.{each}
 use Rattle.escape.specs.Dle.{dle}
@@ -18,6 +22,10 @@ dle-lawful = lawful-by dle 0x10
     (λ w. by-eqb (PlainOf dle 0x10 w) w 0x10 (λ e. e) (λ n. rw (ne-eqb w 0x10 n)))
     (λ x. by-eqb (AfterOf dle 0x10 x) x 0x02 (λ _. tt) (λ _. by-eqb (AfterOf dle 0x10 x) x 0x03 (λ _. tt)
     (λ _. by-eqb (AfterOf dle 0x10 x) x 0x10 (λ e. rw e) (λ _. tt))))
+
+-- hidden bytes are bytes
+pub dle-bytes : (bytes : List ℕ) → Bytes bytes → Bytes (hide dle bytes)
+dle-bytes = each-bytes (dle .hideByte) (λ b h. by-eqb Bytes b 0x10 (λ _. bytes-two 0x10 0x10 (lit< tt) (lit< tt)) (λ _. bytes-one b h))
 
 -- hidden bytes that begin with a 10 begin with two
 begins-paired : (bytes rest : List ℕ) → 0x10 ∷ rest ≡ hide dle bytes → (behind : List ℕ) × (rest ≡ 0x10 ∷ behind)

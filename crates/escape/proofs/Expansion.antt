@@ -1,16 +1,19 @@
 -- The expansion code is lawful, leaves no mark among hidden bytes, and bounds a frame.
-use Prim.Native.Nat.{ℕ, zero, suc, _≤_}
+use Prim.Native.Nat.{ℕ, zero, suc, _≤_, _<_}
 use mathlib.Core.Path.{_≡_, refl}
-use mathlib.Core.List.{[], _∷_}
+use mathlib.Core.List.{List, [], _∷_}
 use mathlib.Core.Bool.{cond}
 use native.Mathlib.Omega.{arith}
-use lib.Dec.{eqb}
+use lib.Dec.{eqb, lit<}
 use lib.ListN.{getD, length-append}
 use borrow.Author.Tests.{ne-eqb}
+use Rattle.runs.specs.Runs.{Bytes}
+use Rattle.runs.proofs.Bytes.{bytes-one, bytes-two}
 use Rattle.runs.proofs.Cases.{by-eqb}
+use Rattle.escape.specs.Code.{hide}
 use Rattle.escape.specs.Expansion.{hideByte, expansion}
 use Rattle.escape.specs.Claims.{Coded, alone, pair, Lawful, NoMarks, FrameBound}
-use Rattle.runs.proofs.Each.{each-all}
+use Rattle.runs.proofs.Each.{each-all, each-bytes}
 use Rattle.escape.proofs.OneEscape.{PlainOf, AfterOf, lawful-by}
 use Rattle.escape.proofs.Lawful.{hide-short}
 
@@ -28,6 +31,15 @@ expansion-lawful = lawful-by expansion 0xFF
     (λ n k l. rw (ne-eqb w 0xFD n, ne-eqb w 0xFE k, ne-eqb w 0xFF l)))
     (λ x. by-eqb (AfterOf expansion 0xFF x) x 0xFD (λ _. tt) (λ _. by-eqb (AfterOf expansion 0xFF x) x 0x02 (λ e. rw e)
     (λ _. by-eqb (AfterOf expansion 0xFF x) x 0x01 (λ e. rw e) (λ _. by-eqb (AfterOf expansion 0xFF x) x 0x00 (λ e. rw e) (λ _. tt)))))
+
+-- hidden bytes are bytes
+pub expansion-bytes : (bytes : List ℕ) → Bytes bytes → Bytes (hide expansion bytes)
+expansion-bytes =
+    each-bytes hideByte
+    (λ b h. by-byte Bytes b (λ _. coded 0x02 (lit< tt)) (λ _. coded 0x01 (lit< tt)) (λ _. coded 0x00 (lit< tt)) (λ _ _ _. bytes-one b h))
+  where
+    coded : (x : ℕ) → x < 256 → Bytes (0xFF ∷ x ∷ [])
+    coded x h = bytes-two 0xFF x (lit< tt) h
 
 -- neither mark
 abbrev Unmarked : ℕ → Type 0

@@ -1,7 +1,7 @@
 -- Codes that hide bytes between the marks of a frame, so that no mark stands among them.
 use Prim.Native.Nat.{ℕ}
 use mathlib.Core.Bool.{Bool, true, false, cond}
-use mathlib.Core.List.{List, [], _∷_, _++_}
+use mathlib.Core.List.{List, [], _∷_}
 use mathlib.Core.Option.{Option, none, some, Option·map}
 use Rattle.runs.specs.Runs.{each}
 use Rattle.escape.specs.declared.Meaning.{Meaning as Told}

@@ -1,16 +1,12 @@
 -- The count of gathered bytes stays within the link's size, for every state that does not give 12, whatever its store holds.
 use Prim.Native.Nat.{ℕ, _≤_}
-use mathlib.Core.Path.{_≡_, sym, subst}
-use mathlib.Core.Bool.{Bool, true, cond}
+use mathlib.Core.Path.{sym, subst}
 use mathlib.Core.List.{List, [], _∷_, _++_}
 use mathlib.Core.Option.{Option}
 use native.Mathlib.Omega.{arith}
-use lib.Dec.{eqb, leb, ltb}
 use lib.ListN.{length, length-append, length-take}
-use borrow.Author.Tests.{eqb-true, leb-true}
-use Rattle.runs.proofs.Cases.{by-eqb, by-ltb, and-both}
+use Rattle.runs.proofs.Cases.{by-eqb, by-ltb}
 use Rattle.framing.specs.Segment.{Segment}
-use Rattle.framing.specs.State.{knownState}
 use Rattle.framing.specs.declared.State.{State}
 use Rattle.escape.specs.Code.{Meaning, byte, waits, start, end, wrong, meaning}
 use Rattle.escape.specs.Expansion.{expansion}
@@ -19,11 +15,6 @@ use Rattle.expansion.specs.Rules.{Phase, hunting, inside, size, gathered
 use Rattle.expansion.specs.Contract.{phaseOf}
 use Rattle.expansion.specs.Steps.{Answers}
 use Rattle.expansion.specs.declared.Stepped.{Stepped}
-
-pub known-count : (s : State) → knownState 3 1 size s ≡ true → s .count ≤ size
-known-count s h =
-    by-ltb (λ (t : Bool). t ≡ true → s .count ≤ size) (s .mode) 1 (λ _ e. let z = eqb-true (s .count) 0 e in omega arith) (λ _ e. leb-true (s .count) size e)
-    (and-both (ltb (s .mode) 3) (cond (ltb (s .mode) 1) (eqb (s .count) 0) (leb (s .count) size)) h .1)
 
 abbrev Sized : Phase × Option (Segment Message) → Type 0
 Sized r = length (gathered (r .0)) ≤ size

@@ -13,12 +13,14 @@ use Rattle.runs.proofs.Cases.{by-test, by-eqb, by-ltb}
 use Rattle.framing.specs.Segment.{Segment, refused, wireOf}
 use Rattle.framing.proofs.Segments.{accepts-wire, wireOpt, Accepts}
 use Rattle.escape.specs.Code.{Meaning, byte, waits, start, end, wrong, meaning, hide}
-use Rattle.escape.specs.Expansion.{expansion}
+use Rattle.escape.specs.Expansion.{hideByte, expansion}
 use Rattle.escape.proofs.Lawful.{hide-more}
 use Rattle.escape.proofs.Expansion.{expansion-lawful}
 use Rattle.expansion.specs.Frame.{Message, ok, enclose, frame}
 use Rattle.expansion.specs.Rules.{Phase, hunting, inside, size, gathered, held, checkRight, fieldsOk, judge, gather, act, cut}
-use Rattle.expansion.proofs.Hidden.{hide-nil, bytes-one, Meant, meant}
+use Rattle.runs.proofs.Bytes.{bytes-one}
+use Rattle.runs.proofs.Each.{each-nil}
+use Rattle.expansion.proofs.Hidden.{Meant, meant}
 use Rattle.expansion.proofs.Judge.{content, content-in, ok-in}
 
 -- a phase that is reached
@@ -49,7 +51,7 @@ closes g wire s h = record { holds = append-nil (wireOf frame s) ∙ h .0; good 
 
 -- an open frame with nothing gathered holds its FD
 held-open : held (inside false []) ≡ 0xFD ∷ []
-held-open = ap (λ (x : List ℕ). 0xFD ∷ (x ++ [])) hide-nil
+held-open = ap (λ (x : List ℕ). 0xFD ∷ (x ++ [])) (each-nil hideByte)
 
 judge-takes : (g wire : List ℕ) → Bytes g → length g ≤ size → enclose g ≡ wire → Takes g wire (hunting, some (judge g wire))
 judge-takes g wire y h e =

@@ -23,7 +23,8 @@ use Rattle.escape.proofs.Expansion.{expansion-lawful}
 use Rattle.expansion.specs.Frame.{Message, Typed, body, trailer, frame}
 use Rattle.expansion.specs.Rules.{Phase, hunting, inside, size, gathered, held, cut}
 use Rattle.expansion.specs.Contract.{modeOf, phaseOf, numbersOf, dataOf, messageOf, link}
-use Rattle.expansion.proofs.Hidden.{hide-bytes, bytes-one}
+use Rattle.runs.proofs.Bytes.{bytes-one}
+use Rattle.escape.proofs.Expansion.{expansion-bytes}
 use Rattle.expansion.proofs.Judge.{content, content-length, content-bytes}
 use Rattle.expansion.proofs.Cut.{Good, none-gathered, Taken, cut-takes}
 use Rattle.expansion.proofs.Readback.{reads-frame}
@@ -70,7 +71,7 @@ module _ (g store : List ℕ) (stands : take (length g) store ≡ g) (room : siz
 frame-bytes : (m : Message) → Typed m → Bytes (frame m)
 frame-bytes m t =
     bytes-append (0xFD ∷ hide expansion (content m)) (0xFE ∷ [])
-    (bytes-append (0xFD ∷ []) (hide expansion (content m)) (bytes-one 0xFD (lit< tt)) (hide-bytes (content m) (content-bytes m t))) (bytes-one 0xFE (lit< tt))
+    (bytes-append (0xFD ∷ []) (hide expansion (content m)) (bytes-one 0xFD (lit< tt)) (expansion-bytes (content m) (content-bytes m t))) (bytes-one 0xFE (lit< tt))
 
 pub lawful : Lawful link
 lawful =

@@ -19,7 +19,7 @@ use Rattle.escape.specs.Expansion.{hideByte, expansion}
 use Rattle.escape.proofs.Expansion.{expansion-lawful}
 use Rattle.expansion.specs.Frame.{Message, Typed, ok, frame}
 use Rattle.expansion.specs.Rules.{hunting, inside, size, held, act, cut}
-use Rattle.expansion.proofs.Hidden.{hide-nil, hide-cons}
+use Rattle.runs.proofs.Each.{each-nil, each-cons}
 use Rattle.expansion.proofs.Judge.{content, content-fits, judge-content}
 
 -- wire bytes that make no event, from gathered bytes g to h
@@ -43,9 +43,9 @@ module _ (n : ℕ) (g : List ℕ) (l : length g < size) where
       (quiet-cons (step cut) (step-open cut (inside true g) (inside false (g ++ (b ∷ []))) n x (cut-byte true x b a)) q)
 
 gathers : (n : ℕ) (g bs : List ℕ) → length g + length bs ≤ size → Gathers n g (hide expansion bs) (g ++ bs)
-gathers n g [] h = rw (hide-nil, append-nil) (quiet-nil (step cut) (at (inside false g) n))
+gathers n g [] h = rw ((each-nil hideByte), append-nil) (quiet-nil (step cut) (at (inside false g) n))
 gathers n g (b ∷ bs) h =
-    rw (hide-cons b bs)
+    rw (each-cons hideByte b bs)
     (gathers-run n g (omega arith) b (hideByte b) (hide expansion bs) (g ++ b ∷ bs) (expansion-lawful .coded b)
     (rw append-snoc at (gathers n (g ++ (b ∷ [])) bs (simp length-append (omega arith)))))
 

@@ -1,16 +1,14 @@
 -- The store after a byte, and what the rules read in it at the end of a frame.
-use Prim.Native.Nat.{ℕ, suc, _+_, _-_, _≤_, _<_}
+use Prim.Native.Nat.{ℕ, _+_, _-_, _≤_}
 use mathlib.Core.Path.{_≡_, refl, ap, sym, _∙_}
 use mathlib.Core.Bool.{true, false, _&&_}
-use mathlib.Core.List.{List, [], _∷_, _++_}
+use mathlib.Core.List.{List}
 use mathlib.Core.Option.{some}
-use native.Mathlib.Numerals.{add-one}
 use native.Mathlib.Omega.{arith}
 use lib.Dec.{eqb, leb}
-use lib.ListN.{length, getD, take, drop, set, length-append, take-append-drop}
-use lib.Seq.{length-take-le, set-split, append-snoc, take-take, getD-take, take-add, drop-at}
+use lib.ListN.{length, getD, take, drop}
+use lib.Seq.{length-take-le, take-take, getD-take, take-add, drop-at}
 use borrow.Author.Tests.{le-ltb}
-use Rattle.runs.specs.Runs.{over}
 use Rattle.runs.specs.Number.{number}
 use Rattle.runs.proofs.Cases.{by-test, by-ltb}
 use Rattle.framing.specs.Segment.{Segment, refused, accepted, eventOf, noiseAfter}
@@ -21,15 +19,6 @@ use Rattle.expansion.specs.Rules.{checkRight, fieldsOk, messageIn, judge
 use Rattle.expansion.specs.Contract.{numbersOf, link}
 use Rattle.expansion.specs.declared.Message.{Message as Numbers}
 use Rattle.expansion.proofs.Judge.{payload-length}
-
-module _ (store : List ℕ) (k : ℕ) where
-  pub same-store : k ≤ length store → store ≡ over (take k store) store
-  same-store h = rw (length-take-le k store h) (sym (take-append-drop k store))
-
-  pub more-store : (b : ℕ) → k < length store → set store k b ≡ over (take k store ++ (b ∷ [])) store
-  more-store b h =
-      let n : length (take k store ++ (b ∷ [])) ≡ k + 1 = length-append (take k store) (b ∷ []) ∙ rw (length-take-le k store (omega arith)) in
-      rw (n, add-one) (set-split store k b h ∙ sym (append-snoc (take k store) b (drop (suc k) store)))
 
 -- what is told of a segment
 abbrev pub toldSegment : Segment Message → Told Numbers

@@ -1,6 +1,6 @@
 -- What a call that stores a run has stored, where the run fits.
 use Prim.Native.Nat.{ℕ, _+_, _≤_}
-use mathlib.Core.Path.{_≡_, ap, sym, _∙_}
+use mathlib.Core.Path.{_≡_, ap, _∙_}
 use mathlib.Core.List.{List, _++_, append-nil}
 use native.Mathlib.Omega.{arith}
 use lib.ListN.{length, length-append, drop-of-length-le}
@@ -27,11 +27,6 @@ module _ (run memory after : List ℕ) (at : ℕ) (r : Answer) (fits : at + leng
       let o : outcomeOf r ≡ done (length run) = ap (λ (x : Outcome ℕ × List ℕ). x .0) answers in
       let z : _≡_ {A = ℕ} 0 1 = cc in
       omega arith
-
--- the other way round, at the start of memory
-pub answers-done : (run memory after : List ℕ) (n : ℕ) → length run ≤ length memory → n ≡ length run → after ≡ sets memory 0 run
-    → _≡_ {A = Outcome ℕ × List ℕ} (done n, after) (storedAt run memory 0)
-answers-done run memory after n fits e o = (λ i. (done (e i), o i)) ∙ sym (stored-done run memory 0 (omega arith))
 
 -- a number stored over as many bytes as it takes is all that stands there
 pub number-put : (width n : ℕ) (memory after : List ℕ) → length memory ≡ width → after ≡ sets memory 0 (bytesOf width n) → after ≡ bytesOf width n

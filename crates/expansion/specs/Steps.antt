@@ -1,9 +1,8 @@
 -- What the receiver's private functions answer: the steps of a call.
-use Prim.Native.Nat.{_≤_}
+use Prim.Native.Nat.{ℕ, _≤_}
 use mathlib.Core.Path.{_≡_}
 use mathlib.Core.List.{List}
 use mathlib.Core.Option.{Option}
-use Prim.Native.Nat.{ℕ}
 use lib.ListN.{length}
 use Rattle.runs.specs.Runs.{over}
 use Rattle.framing.specs.Segment.{Segment, eventOf}

@@ -8,7 +8,6 @@ use mathlib.Core.List.{List, [], _∷_, _++_, append-assoc, append-cancel-left}
 use native.Mathlib.Omega.{arith}
 use lib.ListN.{length, length-append}
 use lib.Seq.{sets}
-use lib.Dec.{leb}
 use Rattle.runs.specs.Runs.{Begins}
 use Rattle.runs.proofs.Cases.{by-test, by-leb}
 use Rattle.runs.proofs.Run.{part-sets}

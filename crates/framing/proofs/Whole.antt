@@ -1,24 +1,23 @@
 -- A run is read as a message exactly if it is the frame of one that may be sent, over any lawful link.
-use Prim.Native.Nat.{ℕ, _+_, _%_, _^_, _≤_, _<_}
+use Prim.Native.Nat.{ℕ, _^_, _≤_, _<_}
 use mathlib.Core.Path.{_≡_, refl, ap, sym, _∙_, subst}
-use mathlib.Core.Bool.{Bool, true, false, cond, _&&_}
-use mathlib.Core.List.{List, [], _∷_, _++_, append-nil}
+use mathlib.Core.Bool.{Bool, true, false, cond}
+use mathlib.Core.List.{List, [], _∷_, append-nil}
 use mathlib.Core.Option.{Option, none, some}
 use native.Mathlib.Omega.{arith}
-use lib.ListN.{length, drop, length-append}
+use lib.ListN.{length, length-append}
 use lib.Seq.{drop-length}
 use lib.Dec.{ltb, eqb}
 use borrow.Author.Tests.{ltb-true, eqb-true, lt-ltb, eq-eqb}
 use Rattle.runs.specs.Runs.{Bytes}
 use Rattle.runs.proofs.Cases.{and-both}
 use Rattle.framing.specs.Answer.{Outcome, done, refused}
-use Rattle.framing.specs.Receiver.{Fed, feed, events, last}
+use Rattle.framing.specs.Receiver.{Fed, feed, last}
 use Rattle.framing.specs.Segment.{Segment, noise, refused as refusedFrame, accepted, Event, message, refusal, Config, step, wires, heard, noiseOf}
 use Rattle.framing.specs.Link.{Link, Told, nothing, numbers, number, heardIn, answer, called}
 use Rattle.framing.specs.Claims.{segments, openAt}
 use Rattle.framing.specs.Whole.{settle, exactly, OnlyFrames, FramesRead}
 use Rattle.framing.proofs.Feed.{events-feed, last-feed}
-use Rattle.framing.proofs.Cutting.{Follows}
 use Rattle.framing.proofs.Segments.{AllAccept, heard-events, noise-last, phase-last}
 use Rattle.framing.proofs.Lawful.{Lawful, at, accounted, all-sendable, last-closed, fresh-follows}
 

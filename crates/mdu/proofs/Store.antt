@@ -1,14 +1,13 @@
 -- The store after a gathered byte, what the rules make of the byte, and what they read in the store at the end of a frame.
-use Prim.Native.Nat.{ℕ, suc, _+_, _≤_, _<_}
+use Prim.Native.Nat.{ℕ, _+_, _≤_, _<_}
 use mathlib.Core.Path.{_≡_, ap, sym, _∙_}
 use mathlib.Core.List.{List, [], _∷_, _++_}
 use mathlib.Core.Option.{none, some}
 use native.Mathlib.Numerals.{add-one}
 use native.Mathlib.Omega.{arith}
-use lib.ListN.{length, getD, take, drop, set, length-append, length-drop}
-use lib.Seq.{length-take-le, set-split, append-snoc, take-suc-set, take-add, take-take, drop-at, getD-take}
+use lib.ListN.{length, getD, take, drop, set, length-drop}
+use lib.Seq.{length-take-le, take-suc-set, take-add, take-take, drop-at, getD-take}
 use borrow.Author.Tests.{eq-eqb, ne-eqb}
-use Rattle.runs.specs.Runs.{over}
 use Rattle.framing.specs.Segment.{eventOf}
 use Rattle.framing.specs.Link.{told, numbers, number}
 use Rattle.checksum.specs.Crc.{crc16Of}

@@ -1,19 +1,14 @@
 -- The store after a byte: what is gathered in front, and the rest as it was.
-use Prim.Native.Nat.{ℕ, suc, _+_, _-_, _≤_, _<_}
+use Prim.Native.Nat.{ℕ, _+_, _-_, _≤_}
 use mathlib.Core.Path.{_≡_, refl, ap, sym, subst, _∙_}
-use mathlib.Core.Bool.{Bool, true}
-use mathlib.Core.List.{List, [], _∷_, _++_}
+use mathlib.Core.List.{List}
 use mathlib.Core.Option.{Option}
-use native.Mathlib.Numerals.{add-one}
 use native.Mathlib.Omega.{arith}
-use lib.Dec.{ltb}
-use lib.ListN.{length, take, drop, set, length-append, length-take}
-use lib.Seq.{length-take-le, set-split, append-snoc, take-add, drop-at, take-take}
-use borrow.Author.Tests.{eqb-true, leb-true}
+use lib.ListN.{length, take, drop, length-append, length-take}
+use lib.Seq.{length-take-le, take-add, drop-at, take-take}
 use Rattle.runs.specs.Runs.{over}
-use Rattle.runs.proofs.Cases.{by-eqb, by-ltb, and-both}
+use Rattle.runs.proofs.Cases.{by-eqb, by-ltb}
 use Rattle.framing.specs.Segment.{Segment}
-use Rattle.framing.specs.State.{knownState}
 use Rattle.framing.specs.declared.State.{State}
 use Rattle.pcs.specs.Frame as Frame
 use Rattle.pcs.specs.Rules.{Phase, hunting, inside, size, gathered, packedPart, cut}

@@ -33,6 +33,10 @@ pub bytes-one : (b : ℕ) → b < 256 → Bytes (b ∷ [])
 bytes-one b h zero = h
 bytes-one b h (suc i) = lit< tt
 
+pub bytes-two : (a b : ℕ) → a < 256 → b < 256 → Bytes (a ∷ b ∷ [])
+bytes-two a b h k zero = h
+bytes-two a b h k (suc i) = bytes-one b k i
+
 pub bytes-take : (n : ℕ) (u : List ℕ) → Bytes u → Bytes (take n u)
 bytes-take zero u h i = lit< tt
 bytes-take (suc n) [] h i = lit< tt

@@ -1,13 +1,22 @@
 -- Elements one after the other, each as f shows it.
-use Prim.Native.Nat.{ℕ, _+_, _*_, _≤_, _<_}
+use Prim.Native.Nat.{ℕ, suc, _+_, _*_, _≤_, _<_}
 use mathlib.Core.Path.{_≡_, refl, ap, sym, _∙_}
 use mathlib.Core.List.{List, [], _∷_, _++_, append-assoc, append-nil}
 use native.Mathlib.Omega.{arith}
+use lib.Dec.{lit<}
 use lib.ListN.{length, drop, getD, length-append}
-use Rattle.runs.proofs.Bytes.{drop-next, every-append}
-use Rattle.runs.specs.Runs.{each}
+use Rattle.runs.proofs.Bytes.{drop-next, every-append, bytes-append}
+use Rattle.runs.specs.Runs.{Bytes, each}
 
 module _ (f : ℕ → List ℕ) where
+  pub each-nil : each f [] ≡ []
+  unfolding each
+  each-nil = refl
+
+  pub each-cons : (b : ℕ) (bs : List ℕ) → each f (b ∷ bs) ≡ f b ++ each f bs
+  unfolding each
+  each-cons b bs = refl
+
   pub each-append : (xs ys : List ℕ) → each f (xs ++ ys) ≡ each f xs ++ each f ys
   unfolding each
   each-append [] ys = refl
@@ -42,3 +51,9 @@ module _ (f : ℕ → List ℕ) where
   unfolding each
   each-long one [] = omega arith
   each-long one (b ∷ bytes) = simp length-append (omega (arith, one b, each-long one bytes))
+
+  -- bytes, where f gives bytes for a byte
+  pub each-bytes : ((b : ℕ) → b < 256 → Bytes (f b)) → (bytes : List ℕ) → Bytes bytes → Bytes (each f bytes)
+  unfolding each
+  each-bytes h [] y i = lit< tt
+  each-bytes h (b ∷ bytes) y i = bytes-append (f b) (each f bytes) (h b (y 0)) (each-bytes h bytes (λ j. y (suc j))) i

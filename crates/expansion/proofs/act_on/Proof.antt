@@ -3,8 +3,10 @@ use native.Mathlib.Omega.{arith}
 use mathlib.Core.Path.{refl}
 use lib.ListN.{take}
 use lib.Seq.{length-take-le}
-use Rattle.expansion.proofs.Hidden.{hide-nil}
-use Rattle.expansion.proofs.Store.{same-store, judge-noise}
+use Rattle.runs.proofs.Each.{each-nil}
+use Rattle.escape.specs.Expansion.{hideByte}
+use Rattle.runs.proofs.Run.{same-over}
+use Rattle.expansion.proofs.Store.{judge-noise}
 use borrow.Author.Needs.{needs}
 use Rattle.expansion.proofs.act_on.Statement.{statement}
 use Rattle.expansion.proofs.act_on.Tie as tie
@@ -57,12 +59,12 @@ returns-2 c =
     let e = c .before .enum-told .given .1 in
     let l = length-take-le (a .state .count) (a .store .now) (omega arith) in
     let m = ne-eqb (a .state .mode) 0 (s .pre .0) in
-    λ before wire. rw (e, c .hold .ensures) (record { tells = refl; state = rw (m, l); stored = same-store (a .store .now) (a .state .count) (omega arith) })
+    λ before wire. rw (e, c .hold .ensures) (record { tells = refl; state = rw (m, l); stored = same-over (a .store .now) (a .state .count) (omega arith) })
 
 returns-3 : tie.Need-returns-3
 returns-3 c =
     let e = c .before .enum-told2 .given .1 in
-    λ before wire. rw (e, c .reopen .ensures) (record { tells = refl; state = rw hide-nil; stored = refl })
+    λ before wire. rw (e, c .reopen .ensures) (record { tells = refl; state = rw (each-nil hideByte); stored = refl })
 
 same-length-2 : tie.Need-same-length-2
 same-length-2 c = search needs

@@ -3,7 +3,7 @@ use native.Mathlib.Omega.{arith}
 use Prim.Native.Nat.{_<_}
 use lib.ListN.{length, length-append}
 use lib.Seq.{length-take-le}
-use Rattle.expansion.proofs.Store.{more-store}
+use Rattle.runs.proofs.Run.{more-over}
 use borrow.Author.Needs.{needs}
 use Rattle.expansion.proofs.gather_byte.Statement.{statement}
 use Rattle.expansion.proofs.gather_byte.Tie as tie
@@ -33,7 +33,7 @@ returns c =
     λ wire. record {
       tells = simp (k, t);
       state = simp (length-append, k, t, ne-eqb _ _ (s .pre .0), c .hold .ensures);
-      stored = simp (k, t) (more-store (a .store .now) (a .state .count) (a .byte) l);
+      stored = simp (k, t) (more-over (a .store .now) (a .state .count) (a .byte) l);
     }
 
 returns-2 : tie.Need-returns-2

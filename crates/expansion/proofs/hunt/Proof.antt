@@ -1,5 +1,6 @@
 use borrow.Author.Tests.{eq-eqb, ne-eqb}
-use Rattle.expansion.proofs.Hidden.{hide-nil}
+use Rattle.runs.proofs.Each.{each-nil}
+use Rattle.escape.specs.Expansion.{hideByte}
 use borrow.Author.Needs.{needs}
 use Rattle.expansion.proofs.hunt.Statement.{statement}
 use Rattle.expansion.proofs.hunt.Tie as tie
@@ -14,7 +15,7 @@ returns : tie.Need-returns
 returns c =
     let t = eq-eqb _ _ (c .before .if1 .taken) in
     let m = eq-eqb _ _ (c .before .before .pre) in
-    λ store. record { tells = simp t; state = simp (t, m, hide-nil, c .reopen .ensures); stored = simp t }
+    λ store. record { tells = simp t; state = simp (t, m, (each-nil hideByte), c .reopen .ensures); stored = simp t }
 
 returns-2 : tie.Need-returns-2
 returns-2 c =

@@ -1,6 +1,6 @@
 use borrow.Author.Tests.{le-leb, lt-leb}
 use mathlib.Core.Path.{sym, _∙_}
-use Rattle.expansion.proofs.Count.{known-count}
+use Rattle.framing.proofs.States.{known-count}
 use borrow.Author.Needs.{needs}
 use Rattle.expansion.proofs.receive.Statement.{statement}
 use Rattle.expansion.proofs.receive.Tie as tie
@@ -11,7 +11,7 @@ is-known-requires c κs = search needs
 scan-requires : tie.Need-scan-requires
 scan-requires c κs =
     let v = c .before .before .before in
-    record { count = known-count (v .before .before .before .args .state) (sym (v .is-known .ensures) ∙ c .before .before .if1 .taken); room = c .before .if2 .taken }
+    record { count = known-count 3 1 1032 (v .before .before .before .args .state) (sym (v .is-known .ensures) ∙ c .before .before .if1 .taken); room = c .before .if2 .taken }
 
 same-length : tie.Need-same-length
 same-length c = search needs

@@ -21,7 +21,7 @@ abbrev μ-loop : tie.MeasureT-loop
 loop-holds : tie.Need-loop-holds Inv-loop μ-loop
 loop-holds c =
     let s = c .before .before in
-    (omega arith, s .pre .count, refl, s .pre .room, passed-none link (s .args .state, s .args .store .now) (s .args .piece .now))
+    (omega arith, omega (arith, s .pre .count), refl, s .pre .room, passed-none link (s .args .state, s .args .store .now) (s .args .piece .now))
 
 shared-slice-read-step : tie.Need-shared-slice-read-step Inv-loop μ-loop
 shared-slice-read-step c = search needs

@@ -3,7 +3,7 @@ use mathlib.Core.Path.{sym}
 use mathlib.Core.List.{_++_}
 use Rattle.framing.proofs.Stored.{stored-refused}
 use Rattle.expansion.specs.Frame.{enclose}
-use Rattle.expansion.proofs.Stored.{answers-done}
+use Rattle.framing.proofs.Stored.{stored-so}
 use borrow.Author.Needs.{needs}
 use Rattle.expansion.proofs.send.Statement.{statement}
 use Rattle.expansion.proofs.send.Tie as tie
@@ -21,8 +21,8 @@ returns : tie.Need-returns
 returns c =
     let n = c .before .before .before .before .before in
     let a = n .before .before .before .before .before .args in
-    answers-done (enclose (a .header .now ++ (a .«data» .now ++ a .trailer .now))) (a .out .now) (c .before .before .put-frame .last .1 .1 .1 .0)
-    (n .frame-length .result) (omega (arith, n .frame-length .ensures, c .before .before .before .before .if1 .taken)) (n .frame-length .ensures)
+    stored-so (enclose (a .header .now ++ (a .«data» .now ++ a .trailer .now))) (a .out .now) 0 (c .before .before .put-frame .last .1 .1 .1 .0)
+    (n .frame-length .result) (n .frame-length .ensures) (omega (arith, c .before .before .before .before .if1 .taken))
     (c .before .before .put-frame .ensures)
 
 returns-2 : tie.Need-returns-2
