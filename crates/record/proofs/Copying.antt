@@ -19,7 +19,7 @@ use Rattle.record.proofs.Loops.{fares, length-fares}
 
 -- a record that was found has its elements behind its head
 pub found-fill : {r : List ℕ} {k : ℕ} {g : Form} {n room : ℕ} → Found r k g n → n ≤ room → Fill r (g .size) n room
-found-fill f l = record { small = found-small f; whole = omega (arith, found-whole f); fits = l }
+found-fill f l = record { small = found-small f; whole = omega (arith, found-whole f); fits = omega arith }
 
 module _ {A : Type 0} (F : Signedness A) (r : List ℕ) (out : List A) where
   pub copy-malformed : wellFormed r ≡ false → (refused 16, out) ≡ copying F r out

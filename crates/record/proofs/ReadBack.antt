@@ -69,14 +69,19 @@ module _ {A : Type 0} (F : Signedness A) where
     found-address : addressOf sent ≡ address
     found-address =
         let small : address < 65536 = omega (arith, facts, limit-le kind) in
-        rw (append-assoc (bytesOf 2 address) (bytesOf 2 (length l)) elements, take-at (bytesOf 2 address) (bytesOf 2 (length l) ++ elements) 2 (length-bytesOf 2 address))
-        (number-bytesOf 2 address small)
+        let cut : drop 1 sent ≡ bytesOf 2 address ++ (bytesOf 2 (length l) ++ elements) = append-assoc (bytesOf 2 address) (bytesOf 2 (length l)) elements in
+        ap (λ (b : List ℕ). number (take 2 b)) cut
+        ∙ ap number (take-at (bytesOf 2 address) (bytesOf 2 (length l) ++ elements) 2 (length-bytesOf 2 address))
+        ∙ number-bytesOf 2 address small
 
     found-count : countOf sent ≡ length l
     found-count =
         let few : length l < 65536 = omega (arith, facts, limit-le kind) in
-        rw (append-assoc (bytesOf 2 address) (bytesOf 2 (length l)) elements, drop-at (bytesOf 2 address) (bytesOf 2 (length l) ++ elements) 2 (length-bytesOf 2 address), take-at (bytesOf 2 (length l)) elements 2 (length-bytesOf 2 (length l)))
-        (number-bytesOf 2 (length l) few)
+        let cut : drop 3 sent ≡ bytesOf 2 (length l) ++ elements =
+        ap (λ (b : List ℕ). drop 2 b) (append-assoc (bytesOf 2 address) (bytesOf 2 (length l)) elements) ∙ drop-at (bytesOf 2 address) (bytesOf 2 (length l) ++ elements) 2 (length-bytesOf 2 address) in
+        ap (λ (b : List ℕ). number (take 2 b)) cut
+        ∙ ap number (take-at (bytesOf 2 (length l)) elements 2 (length-bytesOf 2 (length l)))
+        ∙ number-bytesOf 2 (length l) few
 
     found-elements : drop 5 sent ≡ elements
     found-elements = drop-at (bytesOf 2 address ++ bytesOf 2 (length l)) elements 4 (simp (length-append, length-bytesOf))

@@ -63,6 +63,7 @@ askedSigned element.UnsignedAbsent = refused 17
 askedSigned element.SignedAbsent = refused 18
 askedSigned element.Malformed = refused 16
 
+-- both together
 abbrev pub outcomesOf : Element → Outcome ℕ × Outcome ℤ
 outcomesOf e = (askedUnsigned e, askedSigned e)
 

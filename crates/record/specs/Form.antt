@@ -8,10 +8,11 @@ use Rattle.runs.specs.Number.{number}
 use Rattle.record.specs.declared.Form.{Form}
 use Rattle.record.specs.declared.Head.{Head}
 
+-- a form by its element size, signedness, and limit of address plus count
 abbrev pub form : ℕ → Bool → ℕ → Form
 form s b l = record { size = s; signed = b; limit = l }
 
--- element size, signedness, and limit of address plus count: 1 byte, 2 word, 3 integer, 4 long integer, 5 double word; any other number has size and limit 0
+-- the decision over the type: 1 byte, 2 word, 3 integer, 4 long integer, 5 double word; any other number has size and limit 0
 unfoldable pub formOf : ℕ → Form
 formOf kind =
     cond (eqb kind 1) (form 1 false 2000)
@@ -21,6 +22,7 @@ formOf kind =
     (cond (eqb kind 5) (form 4 false 500)
     (form 0 false 0)))))
 
+-- each part of the decision by itself
 abbrev pub sizeOf : ℕ → ℕ
 sizeOf kind = formOf kind .size
 
@@ -53,6 +55,7 @@ wellFormed r =
     leb 5 (length r)
     && (allowed (kindOf r) (addressOf r) (countOf r) && eqb (length r) (5 + sizeOf (kindOf r) * countOf r))
 
+-- a head by its type and count
 abbrev pub head : ℕ → ℕ → Head
 head k n = record { kind = k; count = n }
 

@@ -113,6 +113,7 @@ fn is_allowed(kind: u8, address: usize, count: usize) -> bool
     true
 }
 
+// Tests a whole record: its length, the fields of its head, and that it has exactly the elements that it counts.
 fn head_of(bytes: &[u8]) -> Head
     ensures { λ r. ⌜ r ≡ headOf (now (bytes .entry)) ⌝ }
 {
@@ -181,6 +182,7 @@ fn from_signed(fare: i32, size: usize) -> u32
     if fare < 0 { top - m } else { m }
 }
 
+// Stores count fares of size bytes each, which stand behind the head, from the start of out on.
 fn fill_unsigned(bytes: &[u8], size: usize, count: usize, out: &mut [u32])
     requires { ⌜ Fill (now bytes) size count (length (now out)) ⌝ }
     ensures { λ _. ⌜ now (out .exit) ≡ sets (now (out .entry)) 0 (map (unsigned .fareOf size) (numbers size count (drop 5 (now (bytes .entry))))) ⌝ }
@@ -279,6 +281,7 @@ fn holds_signed(fares: &[i32], size: usize) -> bool
     true
 }
 
+// Stores the type, the address and the count at the start of out.
 fn put_head(out: &mut [u8], kind: u8, address: u16, count: usize)
     requires { ⌜ (5 ≤ length (now out)) × (count < 65536) ⌝ }
     ensures { λ _. ⌜ now (out .exit) ≡ sets (now (out .entry)) 0 ((kind ∷ bytesOf 2 address) ++ bytesOf 2 count) ⌝ }
@@ -288,6 +291,7 @@ fn put_head(out: &mut [u8], kind: u8, address: u16, count: usize)
     put_number(out, 3, 2, count as u32);
 }
 
+// Stores the fares behind the head, size bytes each.
 fn put_unsigned(out: &mut [u8], size: usize, fares: &[u32])
     requires { ⌜ 5 + size * length (now fares) ≤ length (now out) ⌝ }
     ensures { λ _. ⌜ now (out .exit) ≡ sets (now (out .entry)) 5 (bytesOfAll size (map (unsigned .numberOf size) (now (fares .entry)))) ⌝ }
