@@ -1,0 +1,48 @@
+-- The parts of a message's number, as the header's accessors take them out again.
+use Prim.Native.Nat.{ℕ, zero, suc, _/_, _%_, _^_, _<_}
+use mathlib.Core.Path.{_≡_}
+use mathlib.Core.List.{List, [], _∷_}
+use native.Mathlib.Omega.{arith}
+use native.Mathlib.Nat.{zero-div, pow-zero, pow-succ', div-div-eq-div-mul}
+use lib.ListN.{getD}
+use Rattle.runs.specs.Runs.{Bytes}
+use Rattle.runs.specs.Number.{number}
+use Rattle.host.specs.Read.{packed, refusalOf, lengthOf, kindOf, fieldOf}
+
+module _ (size kind : ℕ) (fields : List ℕ) where
+  -- a message is no refusal
+  pub packed-refusal : refusalOf (packed size kind fields) ≡ 0
+  unfolding packed
+  packed-refusal = omega arith
+
+  pub packed-size : size < 2 ^ 12 → lengthOf (packed size kind fields) ≡ size
+  unfolding packed
+  packed-size h = omega arith
+
+  pub packed-kind : kind < 2 ^ 2 → kindOf (packed size kind fields) ≡ kind
+  unfolding packed
+  packed-kind h = omega arith
+
+  pub packed-fields : packed size kind fields / 2 ^ 24 ≡ number fields
+  unfolding packed
+  packed-fields = omega arith
+
+module _ (b : ℕ) (bs : List ℕ) (byte : b < 2 ^ 8) where
+  pub first-field : number (b ∷ bs) % 2 ^ 8 ≡ b
+  unfolding number
+  first-field = omega arith
+
+  pub other-fields : number (b ∷ bs) / 2 ^ 8 ≡ number bs
+  unfolding number
+  other-fields = omega arith
+
+-- field number i, and 0 past the last
+pub field-at : (fields : List ℕ) (i : ℕ) → Bytes fields → number fields / 256 ^ i % 2 ^ 8 ≡ getD fields i 0
+unfolding number
+field-at [] i y = simp zero-div
+field-at (b ∷ bs) zero y = rw pow-zero (let l = y 0 in omega arith)
+field-at (b ∷ bs) (suc i) y =
+    rw (pow-succ' 256 i, ← div-div-eq-div-mul, other-fields b bs (y 0)) (field-at bs i (λ k. y (suc k)))
+
+pub packed-field : (size kind : ℕ) (fields : List ℕ) (i : ℕ) → Bytes fields → fieldOf i (packed size kind fields) ≡ getD fields i 0
+packed-field size kind fields i y = rw (packed-fields size kind fields) (field-at fields i y)

@@ -1,0 +1,238 @@
+// The calls of a host that is written in C: numbers and byte slices only. include/linebox.h is their header.
+use framing::Answer;
+use framing::refusal;
+ghost use mathlib.Core.Path.{_≡_};
+ghost use mathlib.Core.List.{[], _∷_};
+ghost use Rattle.framing.specs.Answer.{outcomeOf};
+ghost use Rattle.framing.specs.Whole.{settle, exactly};
+ghost use Rattle.pcs.specs.Contract as Pcs;
+ghost use Rattle.mdu.specs.Contract as Mdu;
+ghost use Rattle.dle.specs.Contract as Dle;
+ghost use Rattle.dle.specs.Frame.{content, error as errorMessage};
+ghost use Rattle.expansion.specs.Contract as Expansion;
+ghost use Rattle.host.specs.Read.{packed, encode, reads, pcsCode, mduCode, dleCode, expansionCode};
+ghost use Rattle.host.specs.Write.{signed, writesTo};
+ghost use Rattle.host.specs.Steps.{Short};
+
+// Whether a call used a whole run of this length, none of it noise. The noise count goes round at 2^32, and no frame is as long as that.
+fn is_exact(length: usize, used: usize, noise: u32) -> bool
+    ensures { λ r. ⌜ r ≡ exactly length used noise ⌝ }
+{
+    if length < 4294967296 {
+        if used == length { noise == 0 } else { false }
+    } else {
+        false
+    }
+}
+
+// A message as one number.
+fn pack(size: usize, kind: u8, a: u8, b: u8, c: u8, d: u8, e: u8) -> u64
+    ensures { λ r. ⌜ r ≡ packed size kind (a ∷ b ∷ c ∷ d ∷ e ∷ []) ⌝ }
+{
+    let high = ((e as u64) * 256 + (d as u64)) * 256 + (c as u64);
+    let fields = (high * 256 + (b as u64)) * 256 + (a as u64);
+    256 * ((size % 4096) as u64) + 1048576 * ((kind % 4) as u64) + 16777216 * fields
+}
+
+// A writer's answer as one number: the length, or minus the refusal's number.
+fn signed_of(answer: Answer) -> i32
+    requires { ⌜ Short (outcomeOf answer) ⌝ }
+    ensures { λ r. ⌜ r ≡ signed (outcomeOf answer) ⌝ }
+{
+    match answer {
+        Answer::Done(n) => n as i32,
+        Answer::Refused(n) => -(n as i32),
+    }
+}
+
+// Writes a PCS message.
+#[no_mangle]
+pub extern "C" fn linebox_pcs_write(
+    receiver: u8,
+    sender: u8,
+    kind: u8,
+    number: u8,
+    sender_port: u8,
+    receiver_port: u8,
+    data: &[u8],
+    out: &mut [u8],
+) -> i32
+    ensures { λ r. ⌜ (r, now (out .exit)) ≡ writesTo Pcs.link (record { receiver = receiver; sender = sender; kind = kind; number = number; sender-port = «sender_port»; receiver-port = «receiver_port»; payload = now («data» .entry) }) (now (out .entry)) ⌝ }
+{
+    signed_of(pcs::write(
+        receiver,
+        sender,
+        kind,
+        number,
+        sender_port,
+        receiver_port,
+        data,
+        out,
+    ))
+}
+
+// Writes an MDU message.
+#[no_mangle]
+pub extern "C" fn linebox_mdu_write(address: u8, body: &[u8], out: &mut [u8]) -> i32
+    ensures { λ r. ⌜ (r, now (out .exit)) ≡ writesTo Mdu.link (record { address = address; body = now (body .entry) }) (now (out .entry)) ⌝ }
+{
+    signed_of(mdu::write(address, body, out))
+}
+
+// Writes a DLE message with data.
+#[no_mangle]
+pub extern "C" fn linebox_dle_write(sequence: u8, node: u8, data: &[u8], out: &mut [u8]) -> i32
+    ensures { λ r. ⌜ (r, now (out .exit)) ≡ writesTo Dle.link (content sequence node (now («data» .entry))) (now (out .entry)) ⌝ }
+{
+    signed_of(dle::write(sequence, node, data, out))
+}
+
+// Writes a DLE error message.
+#[no_mangle]
+pub extern "C" fn linebox_dle_write_error(sequence: u8, node: u8, error: u8, out: &mut [u8]) -> i32
+    ensures { λ r. ⌜ (r, now (out .exit)) ≡ writesTo Dle.link (errorMessage sequence node error) (now (out .entry)) ⌝ }
+{
+    signed_of(dle::write_error(sequence, node, error, out))
+}
+
+// Writes an expansion message; its type is named `kind`, since `type` is a word of the language.
+#[no_mangle]
+pub extern "C" fn linebox_expansion_write(
+    id: u8,
+    kind: u8,
+    repeat: u8,
+    address: u8,
+    data: &[u8],
+    out: &mut [u8],
+) -> i32
+    ensures { λ r. ⌜ (r, now (out .exit)) ≡ writesTo Expansion.link (record { id = id; kind = kind; repeat = repeat; address = address; payload = now («data» .entry) }) (now (out .entry)) ⌝ }
+{
+    signed_of(expansion::write(id, kind, repeat, address, data, out))
+}
+
+// What a PCS event is answered as; `exact` tells whether its frame is the whole run.
+fn pcs_answer(event: pcs::Event, exact: bool) -> u64
+    ensures { λ r. ⌜ r ≡ encode pcsCode (settle exact (Pcs.toldOf event)) ⌝ }
+{
+    match event {
+        pcs::Event::Nothing => refusal::TOO_SHORT as u64,
+        pcs::Event::Refused(n) => n as u64,
+        pcs::Event::Accepted(m) => {
+            if exact {
+                pack(
+                    m.length,
+                    m.kind,
+                    m.receiver,
+                    m.sender,
+                    m.number,
+                    m.sender_port,
+                    m.receiver_port,
+                )
+            } else {
+                refusal::TOO_SHORT as u64
+            }
+        }
+    }
+}
+
+// What an MDU event is answered as.
+fn mdu_answer(event: mdu::Event, exact: bool) -> u64
+    ensures { λ r. ⌜ r ≡ encode mduCode (settle exact (Mdu.toldOf event)) ⌝ }
+{
+    match event {
+        mdu::Event::Nothing => refusal::TOO_SHORT as u64,
+        mdu::Event::Refused(n) => n as u64,
+        mdu::Event::Accepted(m) => {
+            if exact {
+                pack(m.length, 0, m.address, 0, 0, 0, 0)
+            } else {
+                refusal::TOO_SHORT as u64
+            }
+        }
+    }
+}
+
+// A DLE message as one number: length 0 is an error message.
+fn dle_code(m: dle::Message) -> u64
+    ensures { λ r. ⌜ r ≡ dleCode m ⌝ }
+{
+    if m.length == 0 {
+        pack(0, 1, m.sequence, m.node, m.error, 0, 0)
+    } else {
+        pack(m.length as usize, 0, m.sequence, m.node, 0, 0, 0)
+    }
+}
+
+// What a DLE event is answered as.
+fn dle_answer(event: dle::Event, exact: bool) -> u64
+    ensures { λ r. ⌜ r ≡ encode dleCode (settle exact (Dle.toldOf event)) ⌝ }
+{
+    match event {
+        dle::Event::Nothing => refusal::TOO_SHORT as u64,
+        dle::Event::Refused(n) => n as u64,
+        dle::Event::Accepted(m) => {
+            if exact {
+                dle_code(m)
+            } else {
+                refusal::TOO_SHORT as u64
+            }
+        }
+    }
+}
+
+// What an expansion event is answered as.
+fn expansion_answer(event: expansion::Event, exact: bool) -> u64
+    ensures { λ r. ⌜ r ≡ encode expansionCode (settle exact (Expansion.toldOf event)) ⌝ }
+{
+    match event {
+        expansion::Event::Nothing => refusal::TOO_SHORT as u64,
+        expansion::Event::Refused(n) => n as u64,
+        expansion::Event::Accepted(m) => {
+            if exact {
+                pack(m.length, 0, m.id, m.kind, m.repeat, m.address, 0)
+            } else {
+                refusal::TOO_SHORT as u64
+            }
+        }
+    }
+}
+
+// Reads one whole PCS frame.
+#[no_mangle]
+pub extern "C" fn linebox_pcs_read(frame: &[u8], store: &mut [u8]) -> u64
+    ensures { λ r. ⌜ (r, now (store .exit)) ≡ reads Pcs.link pcsCode (now (frame .entry)) (now (store .entry)) ⌝ }
+{
+    let got = pcs::receive(framing::fresh(), store, frame);
+    let event = got.event;
+    pcs_answer(event, is_exact(frame.len(), got.used, got.state.noise))
+}
+
+// Reads one whole MDU frame.
+#[no_mangle]
+pub extern "C" fn linebox_mdu_read(frame: &[u8], store: &mut [u8]) -> u64
+    ensures { λ r. ⌜ (r, now (store .exit)) ≡ reads Mdu.link mduCode (now (frame .entry)) (now (store .entry)) ⌝ }
+{
+    let got = mdu::receive(mdu::fresh(), store, frame);
+    let event = got.event;
+    mdu_answer(event, is_exact(frame.len(), got.used, got.state.base.noise))
+}
+
+// Reads one whole DLE frame.
+#[no_mangle]
+pub extern "C" fn linebox_dle_read(frame: &[u8], store: &mut [u8]) -> u64
+    ensures { λ r. ⌜ (r, now (store .exit)) ≡ reads Dle.link dleCode (now (frame .entry)) (now (store .entry)) ⌝ }
+{
+    let got = dle::receive(framing::fresh(), store, frame);
+    let event = got.event;
+    dle_answer(event, is_exact(frame.len(), got.used, got.state.noise))
+}
+
+// Reads one whole expansion frame.
+#[no_mangle]
+pub extern "C" fn linebox_expansion_read(frame: &[u8], store: &mut [u8]) -> u64
+    ensures { λ r. ⌜ (r, now (store .exit)) ≡ reads Expansion.link expansionCode (now (frame .entry)) (now (store .entry)) ⌝ }
+{
+    let got = expansion::receive(framing::fresh(), store, frame);
+    let event = got.event;
+    expansion_answer(event, is_exact(frame.len(), got.used, got.state.noise))
+}

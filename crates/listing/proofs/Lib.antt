@@ -1,0 +1,4 @@
+pub mod Drive
+pub mod Calls
+pub mod Texts
+pub mod Piece

@@ -1,0 +1,159 @@
+/*
+ * linebox: frames of four serial links, written and read.
+ *
+ *   PCS        boards on one bus; 253 .. 254, data packed into seven bits a byte, one sum byte
+ *   MDU        E3 01 with a stated length, a header sum and a 16-bit CRC
+ *   DLE        10 02 .. 10 03 (hex), a 10 between the marks is doubled, no check value
+ *   expansion  FD .. FE (hex), the marks are escaped by FF, a 32-bit CRC
+ *
+ * Every function is a plain function of its arguments: it keeps nothing between calls, allocates nothing, and may be
+ * called from several threads at once as long as they lend different memory.
+ *
+ * Memory. `out` and `store` are lent: while the call lasts nothing else reads or writes them, and they overlap no other
+ * argument. The other runs of bytes are only read. A length of 0 takes any pointer, NULL too; with any other length the
+ * pointer is to that many bytes.
+ *
+ * Single numbers are bytes. A byte that a link does not allow is refused by the call, never cut to fit.
+ */
+#ifndef LINEBOX_H
+#define LINEBOX_H
+
+#include <stddef.h>
+#include <stdint.h>
+
+#ifdef __cplusplus
+extern "C" {
+#endif
+
+/* ---- Refusals: why a call was not done. 0 is no refusal. */
+enum {
+    LINEBOX_STORE_SHORT = 1,    /* read: the store is shorter than LINEBOX_.._STORE */
+    LINEBOX_OUTPUT_SHORT = 2,   /* write: `out` is shorter than the frame */
+    LINEBOX_UNSENDABLE = 3,     /* write: a field or a length that the link does not allow */
+    LINEBOX_NEW_START = 4,      /* read: a new start mark inside the frame (not on MDU) */
+    LINEBOX_TOO_LONG = 5,       /* read: more bytes in the frame than the link allows (not on MDU) */
+    LINEBOX_TOO_SHORT = 6,      /* read: the frame ends too early, or the bytes are not one whole frame */
+    LINEBOX_WRONG_CODE = 7,     /* read: an escape that means nothing (DLE, expansion) */
+    LINEBOX_WRONG_CHECK = 8,    /* read: a sum or a CRC differs (not on DLE) */
+    LINEBOX_WRONG_FIELD = 9,    /* read: a field with a value that is not allowed (not on DLE) */
+    LINEBOX_WRONG_LENGTH = 10,  /* read: the stated length is wrong (not on expansion) */
+    LINEBOX_CRC_ASKED = 11,     /* read: a PCS frame that asks for a CRC, which is not supported */
+    LINEBOX_UNKNOWN_STATE = 12, /* a receiver's state is not one; no function of this header gives it */
+    LINEBOX_BADLY_PACKED = 13   /* read: PCS data that is not packed by the rules */
+};
+
+/* ---- Writers
+ *
+ * Each writes the frame of one message at the start of `out` and answers its length in bytes, which is above 0 and at
+ * most LINEBOX_LONGEST. What lies in `out` behind the frame stays as it was.
+ * A negative answer is minus the number of a refusal, and `out` is unchanged: -LINEBOX_UNSENDABLE, which is tested
+ * first, or -LINEBOX_OUTPUT_SHORT. `out` of LINEBOX_LONGEST bytes is never too short.
+ */
+#define LINEBOX_LONGEST 2066
+
+/* receiver 1 to 250, or 255 for all; sender, number, sender_port and receiver_port 1 to 250; kind one of
+ * LINEBOX_PCS_..; data of 0 to 1,024 bytes, and none with the two acknowledgements. */
+enum {
+    LINEBOX_PCS_PLAIN = 0,
+    LINEBOX_PCS_ASKS = 1,     /* asks for an acknowledgement */
+    LINEBOX_PCS_POSITIVE = 2, /* positive acknowledgement */
+    LINEBOX_PCS_NEGATIVE = 3  /* negative acknowledgement */
+};
+int32_t linebox_pcs_write(uint8_t receiver, uint8_t sender, uint8_t kind, uint8_t number, uint8_t sender_port,
+                          uint8_t receiver_port, const uint8_t *data, size_t data_len, uint8_t *out, size_t out_len);
+
+/* address 1 to 255; body, that is the type byte and then the data, of 1 to 1,025 bytes. */
+int32_t linebox_mdu_write(uint8_t address, const uint8_t *body, size_t body_len, uint8_t *out, size_t out_len);
+
+/* sequence and node any byte; data of 1 to 255 bytes. */
+int32_t linebox_dle_write(uint8_t sequence, uint8_t node, const uint8_t *data, size_t data_len, uint8_t *out,
+                          size_t out_len);
+
+/* A DLE error message: sequence, node and error any byte. It is never unsendable. */
+int32_t linebox_dle_write_error(uint8_t sequence, uint8_t node, uint8_t error, uint8_t *out, size_t out_len);
+
+/* id and address any byte; type one of LINEBOX_EXPANSION_..; repeat 0 to 3; data of 0 to 1,024 bytes, and only with
+ * a request. */
+enum {
+    LINEBOX_EXPANSION_REQUEST = 0,
+    LINEBOX_EXPANSION_ACKNOWLEDGEMENT = 1,
+    LINEBOX_EXPANSION_CHECK_ERROR = 2
+};
+int32_t linebox_expansion_write(uint8_t id, uint8_t type, uint8_t repeat, uint8_t address, const uint8_t *data,
+                                size_t data_len, uint8_t *out, size_t out_len);
+
+/* ---- Reads
+ *
+ * Each reads a run of bytes that should be one whole frame, no byte before it and none behind it, and answers one number:
+ *
+ *   bits  0 to 7    the number of the refusal, and then every other bit is 0; or 0: a message was read, and
+ *   bits  8 to 19   the length of its data in bytes
+ *   bits 20 to 21   PCS: the kind; DLE: 1 for an error message, else 0; MDU and expansion: 0
+ *   bits 22 to 23   0
+ *   bits 24 to 63   its fields, one byte each, from bit 24 on:
+ *                   PCS        receiver, sender, number, sender's port, receiver's port
+ *                   MDU        address
+ *                   DLE        sequence, node, error byte (0 for a message with data)
+ *                   expansion  id, type, repeat, address
+ *                   the bits behind the last field are 0
+ *
+ * The store is where the frame is gathered. It has to have LINEBOX_.._STORE bytes at least, and may hold anything. After
+ * a message was read its data lies in the store from place LINEBOX_.._DATA on, until the store is used again; a DLE error
+ * message has no data. What a refused frame leaves in the store is of no use, except that a store that is too short is
+ * left unchanged.
+ *
+ * A frame is read as exactly the message that the writer makes that frame of, and nothing else is read as a message.
+ */
+#define LINEBOX_PCS_STORE 1180
+#define LINEBOX_MDU_STORE 1033
+#define LINEBOX_DLE_STORE 258
+#define LINEBOX_EXPANSION_STORE 1032
+
+#define LINEBOX_PCS_DATA 0
+#define LINEBOX_MDU_DATA 6 /* the body: the type byte, then the data */
+#define LINEBOX_DLE_DATA 3
+#define LINEBOX_EXPANSION_DATA 4
+
+uint64_t linebox_pcs_read(const uint8_t *frame, size_t frame_len, uint8_t *store, size_t store_len);
+uint64_t linebox_mdu_read(const uint8_t *frame, size_t frame_len, uint8_t *store, size_t store_len);
+uint64_t linebox_dle_read(const uint8_t *frame, size_t frame_len, uint8_t *store, size_t store_len);
+uint64_t linebox_expansion_read(const uint8_t *frame, size_t frame_len, uint8_t *store, size_t store_len);
+
+/* ---- The parts of a read's answer. All but linebox_refusal are for an answer whose refusal is 0. */
+
+/* the number of the refusal, or 0 */
+static inline unsigned linebox_refusal(uint64_t r) { return (unsigned)(r & 0xFF); }
+
+/* the length of the data */
+static inline size_t linebox_length(uint64_t r) { return (size_t)(r >> 8 & 0xFFF); }
+
+/* the two bits of the kind */
+static inline unsigned linebox_kind(uint64_t r) { return (unsigned)(r >> 20 & 3); }
+
+/* field number i, 0 to 4 */
+static inline uint8_t linebox_field(uint64_t r, unsigned i) { return (uint8_t)(r >> (24 + 8 * i) & 0xFF); }
+
+static inline unsigned linebox_pcs_kind(uint64_t r) { return linebox_kind(r); }
+static inline uint8_t linebox_pcs_receiver(uint64_t r) { return linebox_field(r, 0); }
+static inline uint8_t linebox_pcs_sender(uint64_t r) { return linebox_field(r, 1); }
+static inline uint8_t linebox_pcs_number(uint64_t r) { return linebox_field(r, 2); }
+static inline uint8_t linebox_pcs_sender_port(uint64_t r) { return linebox_field(r, 3); }
+static inline uint8_t linebox_pcs_receiver_port(uint64_t r) { return linebox_field(r, 4); }
+
+static inline uint8_t linebox_mdu_address(uint64_t r) { return linebox_field(r, 0); }
+
+static inline int linebox_dle_is_error(uint64_t r) { return linebox_kind(r) == 1; }
+static inline uint8_t linebox_dle_sequence(uint64_t r) { return linebox_field(r, 0); }
+static inline uint8_t linebox_dle_node(uint64_t r) { return linebox_field(r, 1); }
+static inline uint8_t linebox_dle_error(uint64_t r) { return linebox_field(r, 2); }
+
+static inline uint8_t linebox_expansion_id(uint64_t r) { return linebox_field(r, 0); }
+static inline uint8_t linebox_expansion_type(uint64_t r) { return linebox_field(r, 1); }
+static inline uint8_t linebox_expansion_repeat(uint64_t r) { return linebox_field(r, 2); }
+static inline uint8_t linebox_expansion_address(uint64_t r) { return linebox_field(r, 3); }
+
+#ifdef __cplusplus
+}
+#endif
+
+#endif

@@ -1,0 +1,228 @@
+/* The C interface as a host uses it: each link is written and read back, each rule of the header is tried, and what fails is printed. */
+#include "linebox.h"
+
+#include <stdio.h>
+#include <string.h>
+
+static int failures;
+
+#define CHECK(x)                                               \
+    do {                                                       \
+        if (!(x)) {                                            \
+            printf("%s:%d: failed: %s\n", __FILE__, __LINE__, #x); \
+            failures++;                                        \
+        }                                                      \
+    } while (0)
+
+#define MARK 0xA5 /* what lent memory holds before a call */
+
+static uint8_t out[LINEBOX_LONGEST + 2], store[LINEBOX_PCS_STORE + 2], data[1026];
+
+/* memory behind the first n bytes is as it was */
+static int kept(const uint8_t *memory, size_t n, size_t size) {
+    for (size_t i = n; i < size; i++)
+        if (memory[i] != MARK) return 0;
+    return 1;
+}
+
+static void fresh(void) {
+    memset(out, MARK, sizeof out);
+    memset(store, MARK, sizeof store);
+}
+
+static void pcs(void) {
+    static const uint8_t acknowledgement[] = {253, 250, 101, 6, 2, 128, 128, 1, 1, 105, 254};
+    uint8_t bad[sizeof acknowledgement];
+    fresh();
+    /* the acknowledgement frame of document 000 */
+    int32_t n = linebox_pcs_write(250, 101, LINEBOX_PCS_POSITIVE, 2, 1, 1, NULL, 0, out, sizeof out);
+    CHECK(n == (int32_t)sizeof acknowledgement && !memcmp(out, acknowledgement, sizeof acknowledgement));
+    CHECK(kept(out, sizeof acknowledgement, sizeof out));
+    uint64_t r = linebox_pcs_read(acknowledgement, sizeof acknowledgement, store, LINEBOX_PCS_STORE);
+    CHECK(linebox_refusal(r) == 0 && linebox_length(r) == 0 && linebox_pcs_kind(r) == LINEBOX_PCS_POSITIVE);
+    CHECK(linebox_pcs_receiver(r) == 250 && linebox_pcs_sender(r) == 101 && linebox_pcs_number(r) == 2);
+    CHECK(kept(store, LINEBOX_PCS_STORE, sizeof store));
+
+    /* all fields differ; every data byte, and the longest data */
+    n = linebox_pcs_write(255, 2, LINEBOX_PCS_ASKS, 3, 4, 5, data, 1024, out, sizeof out);
+    CHECK(n == 1182);
+    r = linebox_pcs_read(out, (size_t)n, store, LINEBOX_PCS_STORE);
+    CHECK(linebox_refusal(r) == 0 && linebox_length(r) == 1024 && linebox_pcs_kind(r) == LINEBOX_PCS_ASKS);
+    CHECK(linebox_pcs_receiver(r) == 255 && linebox_pcs_sender(r) == 2 && linebox_pcs_number(r) == 3);
+    CHECK(linebox_pcs_sender_port(r) == 4 && linebox_pcs_receiver_port(r) == 5);
+    CHECK(!memcmp(store + LINEBOX_PCS_DATA, data, 1024));
+
+    /* may not be sent, then does not fit; nothing is written */
+    fresh();
+    CHECK(linebox_pcs_write(0, 2, 0, 3, 4, 5, data, 1, out, sizeof out) == -LINEBOX_UNSENDABLE);
+    CHECK(linebox_pcs_write(251, 2, 0, 3, 4, 5, data, 1, out, sizeof out) == -LINEBOX_UNSENDABLE);
+    CHECK(linebox_pcs_write(1, 255, 0, 3, 4, 5, data, 1, out, sizeof out) == -LINEBOX_UNSENDABLE);
+    CHECK(linebox_pcs_write(1, 2, 4, 3, 4, 5, data, 1, out, sizeof out) == -LINEBOX_UNSENDABLE);
+    CHECK(linebox_pcs_write(1, 2, 0, 0, 4, 5, data, 1, out, sizeof out) == -LINEBOX_UNSENDABLE);
+    CHECK(linebox_pcs_write(1, 2, 0, 3, 0, 5, data, 1, out, sizeof out) == -LINEBOX_UNSENDABLE);
+    CHECK(linebox_pcs_write(1, 2, 0, 3, 4, 251, data, 1, out, sizeof out) == -LINEBOX_UNSENDABLE);
+    CHECK(linebox_pcs_write(1, 2, 0, 3, 4, 5, data, 1025, NULL, 0) == -LINEBOX_UNSENDABLE);
+    CHECK(linebox_pcs_write(1, 2, 3, 3, 4, 5, data, 1, out, sizeof out) == -LINEBOX_UNSENDABLE);
+    CHECK(linebox_pcs_write(1, 2, 0, 3, 4, 5, data, 1, out, 12) == -LINEBOX_OUTPUT_SHORT);
+    CHECK(linebox_pcs_write(1, 2, 0, 3, 4, 5, NULL, 0, NULL, 0) == -LINEBOX_OUTPUT_SHORT);
+    CHECK(kept(out, 0, sizeof out));
+    CHECK(linebox_pcs_write(1, 2, 0, 3, 4, 5, data, 1, out, 13) == 13 && kept(out, 13, sizeof out));
+
+    /* refused frames */
+    CHECK(linebox_pcs_read(acknowledgement, 11, store, LINEBOX_PCS_STORE - 1) == LINEBOX_STORE_SHORT);
+    CHECK(linebox_pcs_read(acknowledgement, 11, NULL, 0) == LINEBOX_STORE_SHORT);
+    CHECK(linebox_pcs_read(acknowledgement, 10, store, sizeof store) == LINEBOX_TOO_SHORT);
+    CHECK(linebox_pcs_read(NULL, 0, store, sizeof store) == LINEBOX_TOO_SHORT);
+    memcpy(bad, acknowledgement, sizeof bad);
+    bad[9] ^= 1;
+    CHECK(linebox_pcs_read(bad, 11, store, sizeof store) == LINEBOX_WRONG_CHECK);
+    bad[3] = 12;
+    CHECK(linebox_pcs_read(bad, 11, store, sizeof store) == LINEBOX_CRC_ASKED);
+    bad[5] = 253;
+    CHECK(linebox_pcs_read(bad, 11, store, sizeof store) == LINEBOX_NEW_START);
+    static const uint8_t field[] = {253, 251, 101, 6, 2, 128, 128, 1, 1, 106, 254};
+    CHECK(linebox_pcs_read(field, sizeof field, store, sizeof store) == LINEBOX_WRONG_FIELD);
+    static const uint8_t stated[] = {253, 1, 1, 4, 1, 128, 2, 1, 1, 139, 254};
+    CHECK(linebox_pcs_read(stated, sizeof stated, store, sizeof store) == LINEBOX_WRONG_LENGTH);
+    static const uint8_t packing[] = {253, 1, 1, 4, 1, 128, 1, 1, 1, 128, 10, 254}; /* one packed byte */
+    CHECK(linebox_pcs_read(packing, sizeof packing, store, sizeof store) == LINEBOX_BADLY_PACKED);
+    uint8_t longer[1200];
+    memset(longer, 1, sizeof longer);
+    longer[0] = 253;
+    CHECK(linebox_pcs_read(longer, sizeof longer, store, sizeof store) == LINEBOX_TOO_LONG);
+}
+
+static void mdu(void) {
+    static const uint8_t frame[] = {0xE3, 0x01, 0x00, 0x01, 0x0D, 0xF2, 0x31, 0xD4, 0xC1};
+    static const uint8_t body[] = {0x31};
+    uint8_t bad[12];
+    fresh();
+    CHECK(linebox_mdu_write(0x0D, body, 1, out, sizeof out) == 9 && !memcmp(out, frame, 9) && kept(out, 9, sizeof out));
+    uint64_t r = linebox_mdu_read(frame, 9, store, LINEBOX_MDU_STORE);
+    CHECK(r == ((uint64_t)0x0D << 24 | 1 << 8));
+    CHECK(linebox_mdu_address(r) == 0x0D && linebox_length(r) == 1 && store[LINEBOX_MDU_DATA] == 0x31);
+    CHECK(!memcmp(store, frame, 9) && kept(store, 9, sizeof store));
+
+    CHECK(linebox_mdu_write(255, data, 1025, out, 1033) == 1033);
+    r = linebox_mdu_read(out, 1033, store, LINEBOX_MDU_STORE);
+    CHECK(linebox_refusal(r) == 0 && linebox_length(r) == 1025 && linebox_mdu_address(r) == 255);
+    CHECK(!memcmp(store + LINEBOX_MDU_DATA, data, 1025));
+
+    fresh();
+    CHECK(linebox_mdu_write(0, body, 1, out, sizeof out) == -LINEBOX_UNSENDABLE);
+    CHECK(linebox_mdu_write(1, NULL, 0, out, sizeof out) == -LINEBOX_UNSENDABLE);
+    CHECK(linebox_mdu_write(1, data, 1026, out, sizeof out) == -LINEBOX_UNSENDABLE);
+    CHECK(linebox_mdu_write(1, body, 1, out, 8) == -LINEBOX_OUTPUT_SHORT);
+    CHECK(linebox_mdu_write(1, body, 1, NULL, 0) == -LINEBOX_OUTPUT_SHORT);
+    CHECK(kept(out, 0, sizeof out));
+
+    CHECK(linebox_mdu_read(frame, 9, store, LINEBOX_MDU_STORE - 1) == LINEBOX_STORE_SHORT && kept(store, 0, sizeof store));
+    CHECK(linebox_mdu_read(frame, 8, store, sizeof store) == LINEBOX_TOO_SHORT);
+    /* noise before the frame, a byte behind it */
+    memcpy(bad + 1, frame, 9);
+    bad[0] = 0;
+    bad[10] = 0;
+    CHECK(linebox_mdu_read(bad, 10, store, sizeof store) == LINEBOX_TOO_SHORT);
+    CHECK(linebox_mdu_read(bad + 1, 10, store, sizeof store) == LINEBOX_TOO_SHORT);
+    memcpy(bad, frame, 9);
+    bad[8] ^= 1;
+    CHECK(linebox_mdu_read(bad, 9, store, sizeof store) == LINEBOX_WRONG_CHECK);
+    bad[1] = 2;
+    CHECK(linebox_mdu_read(bad, 9, store, sizeof store) == LINEBOX_WRONG_FIELD);
+    static const uint8_t length[] = {0xE3, 0x01, 0x04, 0x02, 0x01, 0xEB, 0}; /* 1,026 */
+    CHECK(linebox_mdu_read(length, sizeof length, store, sizeof store) == LINEBOX_WRONG_LENGTH);
+}
+
+static void dle(void) {
+    static const uint8_t frame[] = {0x10, 0x02, 0x10, 0x10, 0x03, 0x02, 0x64, 0x96, 0x10, 0x03};
+    static const uint8_t two[] = {0x64, 0x96};
+    fresh();
+    CHECK(linebox_dle_write(0x10, 3, two, 2, out, sizeof out) == 10 && !memcmp(out, frame, 10) && kept(out, 10, sizeof out));
+    uint64_t r = linebox_dle_read(frame, 10, store, LINEBOX_DLE_STORE);
+    CHECK(r == ((uint64_t)3 << 32 | (uint64_t)0x10 << 24 | 2 << 8));
+    CHECK(linebox_dle_sequence(r) == 0x10 && linebox_dle_node(r) == 3 && !linebox_dle_is_error(r) && linebox_length(r) == 2);
+    CHECK(!memcmp(store + LINEBOX_DLE_DATA, two, 2));
+
+    CHECK(linebox_dle_write_error(7, 8, 9, out, sizeof out) == 8);
+    r = linebox_dle_read(out, 8, store, LINEBOX_DLE_STORE);
+    CHECK(r == ((uint64_t)9 << 40 | (uint64_t)8 << 32 | (uint64_t)7 << 24 | 1 << 20));
+    CHECK(linebox_dle_is_error(r) && linebox_dle_error(r) == 9 && linebox_length(r) == 0);
+
+    uint8_t tens[255];
+    memset(tens, 0x10, sizeof tens);
+    CHECK(linebox_dle_write(0x10, 0x10, tens, 255, out, 519) == 519);
+    r = linebox_dle_read(out, 519, store, LINEBOX_DLE_STORE);
+    CHECK(linebox_refusal(r) == 0 && linebox_length(r) == 255 && !memcmp(store + LINEBOX_DLE_DATA, tens, 255));
+
+    fresh();
+    CHECK(linebox_dle_write(1, 2, NULL, 0, out, sizeof out) == -LINEBOX_UNSENDABLE);
+    CHECK(linebox_dle_write(1, 2, data, 256, out, sizeof out) == -LINEBOX_UNSENDABLE);
+    CHECK(linebox_dle_write(1, 2, two, 2, out, 8) == -LINEBOX_OUTPUT_SHORT);
+    CHECK(linebox_dle_write(1, 2, two, 2, NULL, 0) == -LINEBOX_OUTPUT_SHORT);
+    CHECK(linebox_dle_write_error(1, 2, 3, out, 7) == -LINEBOX_OUTPUT_SHORT);
+    CHECK(kept(out, 0, sizeof out));
+
+    CHECK(linebox_dle_read(frame, 10, NULL, 0) == LINEBOX_STORE_SHORT);
+    CHECK(linebox_dle_read(frame, 10, store, LINEBOX_DLE_STORE - 1) == LINEBOX_STORE_SHORT);
+    CHECK(linebox_dle_read(frame, 9, store, sizeof store) == LINEBOX_TOO_SHORT);
+    CHECK(linebox_dle_read(NULL, 0, store, sizeof store) == LINEBOX_TOO_SHORT);
+    static const uint8_t start[] = {0x10, 0x02, 1, 0x10, 0x02}, code[] = {0x10, 0x02, 1, 0x10, 0x04};
+    CHECK(linebox_dle_read(start, sizeof start, store, sizeof store) == LINEBOX_NEW_START);
+    CHECK(linebox_dle_read(code, sizeof code, store, sizeof store) == LINEBOX_WRONG_CODE);
+    static const uint8_t length[] = {0x10, 0x02, 1, 2, 3, 4, 0x10, 0x03};
+    CHECK(linebox_dle_read(length, sizeof length, store, sizeof store) == LINEBOX_WRONG_LENGTH);
+    uint8_t longer[300] = {0x10, 0x02};
+    CHECK(linebox_dle_read(longer, sizeof longer, store, sizeof store) == LINEBOX_TOO_LONG);
+}
+
+static void expansion(void) {
+    uint8_t marks[1024];
+    memset(marks, 0xFF, sizeof marks);
+    fresh();
+    int32_t n = linebox_expansion_write(0xFD, LINEBOX_EXPANSION_REQUEST, 3, 0xFE, marks, 1024, out, sizeof out);
+    CHECK(n > 2050 && n <= LINEBOX_LONGEST && kept(out, (size_t)n, sizeof out));
+    uint64_t r = linebox_expansion_read(out, (size_t)n, store, LINEBOX_EXPANSION_STORE);
+    CHECK(linebox_refusal(r) == 0 && linebox_length(r) == 1024 && linebox_kind(r) == 0);
+    CHECK(linebox_expansion_id(r) == 0xFD && linebox_expansion_type(r) == LINEBOX_EXPANSION_REQUEST);
+    CHECK(linebox_expansion_repeat(r) == 3 && linebox_expansion_address(r) == 0xFE && linebox_field(r, 4) == 0);
+    CHECK(!memcmp(store + LINEBOX_EXPANSION_DATA, marks, 1024));
+
+    n = linebox_expansion_write(1, LINEBOX_EXPANSION_CHECK_ERROR, 0, 2, NULL, 0, out, sizeof out);
+    CHECK(n >= 10);
+    r = linebox_expansion_read(out, (size_t)n, store, LINEBOX_EXPANSION_STORE);
+    CHECK(r == ((uint64_t)2 << 48 | (uint64_t)0 << 40 | (uint64_t)2 << 32 | (uint64_t)1 << 24));
+
+    out[1] ^= 4;
+    CHECK(linebox_expansion_read(out, (size_t)n, store, sizeof store) == LINEBOX_WRONG_CHECK);
+    out[1] ^= 4;
+    CHECK(linebox_expansion_read(out, (size_t)n, store, LINEBOX_EXPANSION_STORE - 1) == LINEBOX_STORE_SHORT);
+    CHECK(linebox_expansion_read(out, (size_t)n - 1, store, sizeof store) == LINEBOX_TOO_SHORT);
+    CHECK(linebox_expansion_read(out, (size_t)n + 1, store, sizeof store) == LINEBOX_TOO_SHORT);
+
+    fresh();
+    CHECK(linebox_expansion_write(1, 3, 0, 2, NULL, 0, out, sizeof out) == -LINEBOX_UNSENDABLE);
+    CHECK(linebox_expansion_write(1, 0, 4, 2, NULL, 0, out, sizeof out) == -LINEBOX_UNSENDABLE);
+    CHECK(linebox_expansion_write(1, 1, 0, 2, data, 1, out, sizeof out) == -LINEBOX_UNSENDABLE);
+    CHECK(linebox_expansion_write(1, 0, 0, 2, data, 1025, out, sizeof out) == -LINEBOX_UNSENDABLE);
+    CHECK(linebox_expansion_write(1, 0, 0, 2, data, 1, NULL, 0) == -LINEBOX_OUTPUT_SHORT);
+    CHECK(kept(out, 0, sizeof out));
+    static const uint8_t shortest[] = {0xFD, 0xFE}, start[] = {0xFD, 1, 0xFD}, code[] = {0xFD, 0xFF, 3};
+    CHECK(linebox_expansion_read(shortest, 2, store, sizeof store) == LINEBOX_TOO_SHORT);
+    CHECK(linebox_expansion_read(start, 3, store, sizeof store) == LINEBOX_NEW_START);
+    CHECK(linebox_expansion_read(code, 3, store, sizeof store) == LINEBOX_WRONG_CODE);
+    CHECK(linebox_expansion_read(NULL, 0, store, sizeof store) == LINEBOX_TOO_SHORT);
+}
+
+int main(void) {
+    for (size_t i = 0; i < sizeof data; i++) data[i] = (uint8_t)(7 * i + i / 256);
+    pcs();
+    mdu();
+    dle();
+    expansion();
+    if (failures) {
+        printf("%d failed\n", failures);
+        return 1;
+    }
+    puts("host: ok");
+    return 0;
+}
