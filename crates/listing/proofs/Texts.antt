@@ -62,15 +62,15 @@ shown-most : (bytes : List ℕ) → length (shown bytes) ≤ 1 + 2 * length byte
 shown-most [] = omega (arith, length-none [] refl)
 shown-most (b ∷ bytes) = omega (arith, length-some (b ∷ bytes) (λ e. omega arith))
 
-message-fits : (field : ℕ) (bytes : List ℕ) → length bytes ≤ 1180 → length (line (Text.message field bytes)) ≤ 4096
+message-fits : (field : ℕ) (bytes : List ℕ) → length bytes ≤ 1180 → length (line (Text.message field bytes)) ≤ 2411
 message-fits field bytes h = omega (arith, length-message field bytes, decimal-few field, decimal-few (length bytes), shown-most bytes)
 
-refused-fits : (n : ℕ) → length (line (Text.refused n)) ≤ 4096
+refused-fits : (n : ℕ) → length (line (Text.refused n)) ≤ 2411
 unfolding line text ascii
 refused-fits n = simp length-append (omega (arith, decimal-few n))
 
--- the line of any event fits the memory that the program has for it
-pub event-fits : (store : List ℕ) (e : Event) → length store ≤ 1180 → length (textOf (lineIn store e)) ≤ 4096
+-- the line of any event is no longer than that of a message of as many bytes as the store
+pub event-fits : (store : List ℕ) (e : Event) → length store ≤ 1180 → length (textOf (lineIn store e)) ≤ 2411
 unfolding textOf
 event-fits store event.Nothing h = omega arith
 event-fits store (event.Pcs m) h = message-fits _ (Pcs.dataOf store m) (omega (arith, part-short (m .length) (m .length) 0 store))

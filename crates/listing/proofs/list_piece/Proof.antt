@@ -14,7 +14,7 @@ use Rattle.listing.proofs.list_piece.Tie as tie
 
 abbrev Inv-loop : tie.InvT-loop
 Inv-loop store₀ piece out₀ current₀ rest₀ written₀ store out current rest written =
-    (length store ≡ length store₀) × (length store₀ ≤ 1180) × (length out ≡ 4096)
+    (length store ≡ length store₀) × (length store₀ ≤ 1180) × (length out ≡ length out₀)
     × Listing (current₀, store₀) piece (current, store) rest
 
 abbrev μ-loop : tie.MeasureT-loop

@@ -1,5 +1,4 @@
 use borrow.Author.Tests.{ne-eqb}
-use borrow.Author.Needs.{needs}
 use Rattle.listing.proofs.receiver.choose.Statement.{statement}
 use Rattle.listing.proofs.receiver.choose.Tie as tie
 
