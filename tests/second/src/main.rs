@@ -29,7 +29,8 @@ use std::process::ExitCode;
 const USAGE: &str = "usage: second listing < input
        second compare SEED COUNT
        second captures DIR SEED COUNT
-       second vectors";
+       second calls [--whole]
+       second vectors [--whole]";
 
 #[cfg(feature = "host")]
 fn run_compare(seed: u64, count: u64) -> ExitCode {
@@ -87,7 +88,10 @@ fn main() -> ExitCode {
             }
             print_all(&listing::listing(&input))
         }
-        ["vectors"] => print_all(&vectors::vectors()),
+        ["calls"] => print_all(&vectors::calls(false)),
+        ["calls", "--whole"] => print_all(&vectors::calls(true)),
+        ["vectors"] => print_all(&vectors::vectors(false)),
+        ["vectors", "--whole"] => print_all(&vectors::vectors(true)),
         ["compare", seed, count] => match (seed.parse(), count.parse()) {
             (Ok(seed), Ok(count)) => run_compare(seed, count),
             _ => {

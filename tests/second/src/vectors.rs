@@ -1,6 +1,11 @@
-//! The expected output of the program `vectors`.
+//! The calls that the program `vectors` makes, and what it prints of them.
 //!
 //! # Format
+//! `second calls` prints a call a line: the program's standard input. `second
+//! vectors` prints the same lines, each followed by what the call answered: what the
+//! program has to print. Below a bar, which is not printed, stands between the two.
+//! With `--whole` both print one section more, the host's calls.
+//!
 //! A line is words with one space between them. Numbers are decimal. BYTES are
 //! upper-case hex without spaces; `-` stands for none, `runN` for N bytes of
 //! which byte k is (7k + 3) modulo 256, `fillN` for N bytes 05, `frame` for the
@@ -13,61 +18,69 @@
 //! byte in order, mix = (31 mix + byte) modulo 2^32.
 //!
 //! Check values (section `crc`)
-//!     crc16 BYTES VALUE                   VALUE in hex, high byte first
-//!     crc32 BYTES VALUE
+//!     crc16 BYTES | VALUE                 in hex, high byte first
+//!     crc32 BYTES | VALUE
 //!
-//! 01's examples (section `examples`)
-//!     example N VALUE                     sums and elements decimal, the rest hex
+//! 01's examples (section `examples`), number N
+//!     example N sum BYTES | VALUE         decimal; the next three in hex
+//!     example N unpack BYTES | BYTES
+//!     example N hide BYTES | BYTES        as between expansion's marks
+//!     example N dle-frame SEQUENCE NODE BYTES | BYTES
+//!     example N CALL | ANSWER             a `crc16` or `element` line
 //!
 //! Links (sections `pcs`, `mdu`, `dle`, `expansion`). NUMBERS are what the writer
 //! is called with before its bytes: PCS receiver, sender, kind, number, sender's
 //! port, receiver's port; MDU address; DLE sequence, node; expansion id, type,
 //! repeat, address. `write-error` has DLE's sequence, node and error byte. R is
 //! how many bytes are lent.
-//!     write NUMBERS BYTES room R ANSWER memory MIX
-//!     write-error NUMBERS room R ANSWER memory MIX
+//!     write NUMBERS BYTES room R | ANSWER memory MIX
+//!     write-error NUMBERS room R | ANSWER memory MIX
 //!         ANSWER is `refused N`, or `length L frame BYTES`
 //!     fresh R                             a fresh state and a filled store of R bytes
 //!     state STATE                         puts these numbers into the state, the store stays
-//!     receive BYTES used U EVENT state STATE store MIX
 //!         STATE is mode, count, open, noise; for MDU mode, count, length, open, noise
+//!     receive BYTES | used U EVENT state STATE store MIX
 //!         EVENT is `nothing`, `refused N` or `message NUMBERS L BYTES` with the data
 //!         length and the data as the accessor gives it. For DLE two more numbers
 //!         stand behind the node: 1 and the error byte, or 0 and 0.
 //!         Only the bytes printed are handed over, whatever the call uses of them;
 //!         what it doesn't use is not handed over again unless a later line prints it.
-//!     whole BYTES room R answer A store MIX
-//!         the host's call with a filled store of R bytes; A is the 64-bit answer
-//!     part R L gives N                    the accessor with a store of R bytes and a
+//!     part R L | gives N                  the accessor with a store of R bytes and a
 //!                                         message of data length L gives N bytes
 //!
 //! Gate exchange (section `gate`). ANSWER is `nothing`, `send ID REPEAT`, `done`,
 //! `given-up` or `refused N`; M is the asking end's mode afterwards.
 //!     ask fresh
 //!     ask state MODE REPEAT               puts these two into the state as it stands
-//!     ask start NOW ANSWER mode M
-//!     ask tick NOW ANSWER mode M
-//!     ask arrival TYPE ID NOW ANSWER mode M
-//!     ask cycle N last ID                 N times a start and its acknowledgement, all
+//!     ask start NOW | ANSWER mode M
+//!     ask tick NOW | ANSWER mode M
+//!     ask arrival TYPE ID NOW | ANSWER mode M
+//!     ask cycle N | last ID               N times a start and its acknowledgement, all
 //!                                         at time 0; ID is the last one sent
 //!     answer fresh
-//!     answer WHO ID TYPE REPEAT ADDRESS REPLY handed H
+//!     answer WHO ID TYPE REPEAT ADDRESS | REPLY handed H
 //!         an accepted frame at WHO (`board` or `head`); H is 1 if it is handed out
 //!         REPLY is `reply ID TYPE REPEAT ADDRESS` or `reply none`
-//!     answer-refused WHO N BYTES REPLY    a frame refused with N, BYTES its store
-//!     chain down A gives B here H         H is 1 if that means here
-//!     chain up A gives B                  both: or `refused 15`
+//!     answer-refused WHO N BYTES | REPLY  a frame refused with N, BYTES its store
+//!     chain down A | gives B here H       H is 1 if that means here
+//!     chain up A | gives B                both: or `refused 15`
 //!
 //! Records (section `records`). SIGN is `unsigned` or `signed`; the lent run of
 //! fares has R places, place k holding k + 1 beforehand; PLACES are all of them
 //! afterwards (none printed if R is 0).
-//!     copy SIGN BYTES room R ANSWER places PLACES    ANSWER `count C` or `refused N`
-//!     element SIGN BYTES K ANSWER                    ANSWER `value V` or `refused N`
-//!     make SIGN TYPE ADDRESS fares FARES room R ANSWER memory MIX
-//!         FARES are numbers, or `-`, or `zerosN` for N zeros
+//!     copy SIGN BYTES room R | ANSWER places PLACES  ANSWER `count C` or `refused N`
+//!     element SIGN BYTES K | ANSWER                  ANSWER `value V` or `refused N`
+//!     make SIGN TYPE ADDRESS room R fares N FARES | ANSWER memory MIX
+//!         N fares, of which the first few are given and the others are 0
 //!         ANSWER is `refused N` or `length L record BYTES`
-//!     view BYTES ANSWER                              ANSWER `type T count C` or `refused 16`
-//!     view-element SIGN BYTES T C K ANSWER           a view with these fields, element K
+//!
+//! Record views (section `views`)
+//!     view BYTES | ANSWER                            ANSWER `type T count C` or `refused 16`
+//!     view-element SIGN BYTES T C K | ANSWER         a view with these fields, element K
+//!
+//! The host's call on a whole frame (section `whole`, with `--whole` only)
+//!     whole LINK BYTES room R | answer A store MIX
+//!         with a filled store of R bytes; A is the 64-bit answer
 //!
 //! The last line is `end`.
 
@@ -84,6 +97,33 @@ use crate::record;
 use crate::stream::{self, Event, Link, State};
 use crate::sum;
 use crate::whole;
+
+/// Lines so far: the calls alone, and each with its answer.
+#[derive(Default)]
+struct Lines {
+    calls: String,
+    answered: String,
+}
+
+impl Lines {
+    /// A line that only sets something has the answer "".
+    fn add(&mut self, call: &str, answer: &str) {
+        self.calls += &format!("{call}\n");
+        self.answered += format!("{call} {answer}").trim_end();
+        self.answered += "\n";
+    }
+
+    fn append(&mut self, other: Lines) {
+        self.calls += &other.calls;
+        self.answered += &other.answered;
+    }
+}
+
+fn section(name: &str) -> Lines {
+    let mut lines = Lines::default();
+    lines.add(&format!("section {name}"), "");
+    lines
+}
 
 fn run(length: usize) -> Vec<u8> {
     (0..length).map(|k| (7 * k + 3) as u8).collect()
@@ -140,9 +180,12 @@ fn given_fill(length: usize) -> Given {
 /// A writer called with numbers, bytes and memory.
 type Writer<'a> = &'a dyn Fn(&[u8], &[u8], &mut [u8]) -> Result<usize, u8>;
 
-/// One link's section: the text so far, the last frame, the state and the store.
+/// One link's section: its lines, those of its whole frames, the last frame, the
+/// state and the store.
 struct Section<'a> {
-    text: String,
+    name: &'a str,
+    lines: Lines,
+    whole: Lines,
     with_length: bool,
     writer: Writer<'a>,
     frame: Vec<u8>,
@@ -151,14 +194,17 @@ struct Section<'a> {
 }
 
 impl<'a> Section<'a> {
-    fn new(name: &str, with_length: bool, writer: Writer<'a>) -> Self {
-        let text = format!("section {name}\n");
-        Section { text, with_length, writer, frame: Vec::new(), state: State::default(), store: Vec::new() }
-    }
-
-    fn line(&mut self, line: String) {
-        self.text += &line;
-        self.text += "\n";
+    fn new(name: &'a str, with_length: bool, writer: Writer<'a>) -> Self {
+        Section {
+            name,
+            lines: section(name),
+            whole: Lines::default(),
+            with_length,
+            writer,
+            frame: Vec::new(),
+            state: State::default(),
+            store: Vec::new(),
+        }
     }
 
     fn state_words(&self) -> String {
@@ -179,7 +225,7 @@ impl<'a> Section<'a> {
             }
             Err(number) => format!("refused {number}"),
         };
-        self.line(format!("{head} room {room} {answer} memory {}", mix(&out)));
+        self.lines.add(&format!("{head} room {room}"), &format!("{answer} memory {}", mix(&out)));
     }
 
     fn write(&mut self, numbers: &[u8], data: Given, room: usize) {
@@ -191,12 +237,12 @@ impl<'a> Section<'a> {
     fn fresh(&mut self, room: usize) {
         self.state = State::default();
         self.store = filled(room);
-        self.line(format!("fresh {room}"));
+        self.lines.add(&format!("fresh {room}"), "");
     }
 
     fn set(&mut self, state: State) {
         self.state = state;
-        self.line(format!("state {}", self.state_words()));
+        self.lines.add(&format!("state {}", self.state_words()), "");
     }
 
     fn receive_given<L: Link>(&mut self, piece: Given) {
@@ -210,13 +256,9 @@ impl<'a> Section<'a> {
                 format!("message {} {} {}", words(&L::fields(&message)), L::length(&message), answer_word(data))
             }
         };
-        self.line(format!(
-            "receive {} used {} {event} state {} store {}",
-            piece.word,
-            received.used,
-            self.state_words(),
-            mix(&self.store)
-        ));
+        let (used, state, store) = (received.used, self.state_words(), mix(&self.store));
+        let call = format!("receive {}", piece.word);
+        self.lines.add(&call, &format!("used {used} {event} state {state} store {store}"));
     }
 
     fn receive<L: Link>(&mut self, piece: &[u8]) {
@@ -278,47 +320,47 @@ impl<'a> Section<'a> {
         self.receive::<L>(&[1, 2]);
     }
 
-    fn whole_given<L: Link>(&mut self, frame: Given, room: usize) {
+    fn whole_given<L: Link>(&mut self, frame: &[u8], room: usize) {
         let mut store = filled(room);
-        let answer = whole::read::<L>(&frame.bytes, &mut store);
-        self.line(format!("whole {} room {room} answer {answer} store {}", frame.word, mix(&store)));
+        let answer = whole::read::<L>(frame, &mut store);
+        let call = format!("whole {} {} room {room}", self.name, bytes_word(frame));
+        self.whole.add(&call, &format!("answer {answer} store {}", mix(&store)));
     }
 
     /// The last frame alone, behind noise, before noise, without its last byte,
     /// twice, and with a short store.
     fn whole<L: Link>(&mut self) {
         let frame = self.frame.clone();
-        self.whole_given::<L>(Given { word: String::from("frame"), bytes: frame.clone() }, L::SIZE);
-        self.whole_given::<L>(given(&[&[0x55], &frame[..]].concat()), L::SIZE);
-        self.whole_given::<L>(given(&[&frame[..], &[0x55]].concat()), L::SIZE);
-        self.whole_given::<L>(given(&frame[..frame.len() - 1]), L::SIZE);
-        self.whole_given::<L>(given(&[&frame[..], &frame[..]].concat()), L::SIZE);
-        self.whole_given::<L>(given(&frame), L::SIZE - 1);
-        self.whole_given::<L>(given(&[]), L::SIZE);
+        self.whole_given::<L>(&frame, L::SIZE);
+        self.whole_given::<L>(&[&[0x55], &frame[..]].concat(), L::SIZE);
+        self.whole_given::<L>(&[&frame[..], &[0x55]].concat(), L::SIZE);
+        self.whole_given::<L>(&frame[..frame.len() - 1], L::SIZE);
+        self.whole_given::<L>(&[&frame[..], &frame[..]].concat(), L::SIZE);
+        self.whole_given::<L>(&frame, L::SIZE - 1);
+        self.whole_given::<L>(&[], L::SIZE);
     }
 
     fn part<L: Link>(&mut self, room: usize, length: usize, message: L::Message) {
         let store = filled(room);
         let part = stream::data::<L>(&store, &message);
-        self.line(format!("part {room} {length} gives {}", part.len()));
+        self.lines.add(&format!("part {room} {length}"), &format!("gives {}", part.len()));
     }
 }
 
-fn crc_section() -> String {
-    let digits = b"123456789";
-    let mut text = String::from("section crc\n");
-    text += &format!("crc16 {} {}\n", hex(digits), hex(&crc::crc16(digits).to_be_bytes()));
-    text += &format!("crc32 {} {}\n", hex(digits), hex(&crc::crc32(digits).to_be_bytes()));
-    for bytes in [&[][..], &[0x00][..], &[0x80][..], &[0x01][..], &[0xFF, 0xFF, 0xFF, 0xFF][..]] {
-        text += &format!("crc16 {} {}\n", bytes_word(bytes), hex(&crc::crc16(bytes).to_be_bytes()));
-        text += &format!("crc32 {} {}\n", bytes_word(bytes), hex(&crc::crc32(bytes).to_be_bytes()));
+fn crc_lines(lines: &mut Lines, word: &str, bytes: &[u8]) {
+    lines.add(&format!("crc16 {word}"), &hex(&crc::crc16(bytes).to_be_bytes()));
+    lines.add(&format!("crc32 {word}"), &hex(&crc::crc32(bytes).to_be_bytes()));
+}
+
+fn crc_section() -> Lines {
+    let mut lines = section("crc");
+    for bytes in [b"123456789", &[][..], &[0x00], &[0x80], &[0x01], &[0xFF, 0xFF, 0xFF, 0xFF]] {
+        crc_lines(&mut lines, &bytes_word(bytes), bytes);
     }
     for length in [1024, 1028] {
-        let bytes = run(length);
-        text += &format!("crc16 run{length} {}\n", hex(&crc::crc16(&bytes).to_be_bytes()));
-        text += &format!("crc32 run{length} {}\n", hex(&crc::crc32(&bytes).to_be_bytes()));
+        crc_lines(&mut lines, &format!("run{length}"), &run(length));
     }
-    text
+    lines
 }
 
 /// Document 000's four messages: numbers and data.
@@ -334,11 +376,11 @@ fn pcs_frame(n: [u8; 6], data: &[u8]) -> Vec<u8> {
     pcs::frame(n[0], n[1], n[2], n[3], n[4], n[5], data).unwrap_or_default()
 }
 
-/// The byte before the end mark.
-fn sum_of(message: usize) -> u8 {
+/// What the sum of such a message is taken over.
+fn summed(message: usize) -> Vec<u8> {
     let (numbers, data) = PCS_MESSAGES[message];
     let frame = pcs_frame(numbers, data);
-    frame[frame.len() - 2]
+    frame[1..frame.len() - 2].to_vec()
 }
 
 fn value_word<T: ToString>(result: Result<T, u8>) -> String {
@@ -348,29 +390,33 @@ fn value_word<T: ToString>(result: Result<T, u8>) -> String {
     }
 }
 
-fn examples_section() -> String {
-    let unpacked = packing::unpack(&[42, 87, 81, 81, 128, 128, 128, 108]).unwrap_or_default();
+fn examples_section() -> Lines {
+    let sum = |bytes: &[u8]| (format!("sum {}", hex(bytes)), sum::pcs(bytes).to_string());
+    let crc16 = |bytes: &[u8]| (format!("crc16 {}", hex(bytes)), hex(&crc::crc16(bytes).to_be_bytes()));
+    let packed = [42, 87, 81, 81, 128, 128, 128, 108];
+    let data = [0x64, 0x96];
+    let marks = [0xFD, 0xFE, 0xFF];
     let word = [2, 0, 0, 1, 0, 0x64, 0x96];
     let integer = [3, 0, 0, 1, 0, 0x64, 0x96];
-    let values = [
-        sum_of(0).to_string(),
-        sum_of(2).to_string(),
-        sum_of(3).to_string(),
-        sum::sent_as(251).to_string(),
-        sum::sent_as(0).to_string(),
-        hex(&unpacked),
-        hex(&crc::crc16(&[0x31]).to_be_bytes()),
-        hex(&crc::crc16(&[0xB1, 0x00, 0x04, 0x47, 0xBA]).to_be_bytes()),
-        hex(&dle::frame(0x10, 3, &[0x64, 0x96]).unwrap_or_default()),
-        hex(&escape::hide(&[0xFD, 0xFE, 0xFF])),
-        record::element_unsigned(&word, 0).unwrap_or_default().to_string(),
-        record::element_signed(&integer, 0).unwrap_or_default().to_string(),
+    let rows = [
+        sum(&summed(0)),
+        sum(&summed(2)),
+        sum(&summed(3)),
+        sum(&[251]),
+        sum(&[128, 128]),
+        (format!("unpack {}", hex(&packed)), hex(&packing::unpack(&packed).unwrap_or_default())),
+        crc16(&[0x31]),
+        crc16(&[0xB1, 0x00, 0x04, 0x47, 0xBA]),
+        (format!("dle-frame 16 3 {}", hex(&data)), hex(&dle::frame(0x10, 3, &data).unwrap_or_default())),
+        (format!("hide {}", hex(&marks)), hex(&escape::hide(&marks))),
+        (format!("element unsigned {} 0", hex(&word)), value_word(record::element_unsigned(&word, 0))),
+        (format!("element signed {} 0", hex(&integer)), value_word(record::element_signed(&integer, 0))),
     ];
-    let mut text = String::from("section examples\n");
-    for (index, value) in values.iter().enumerate() {
-        text += &format!("example {} {value}\n", index + 1);
+    let mut lines = section("examples");
+    for (index, (call, answer)) in rows.iter().enumerate() {
+        lines.add(&format!("example {} {call}", index + 1), answer);
     }
-    text
+    lines
 }
 
 /// PCS: these bytes between the marks, with the right sum behind them.
@@ -378,7 +424,7 @@ fn pcs_closed(bytes: &[u8]) -> Vec<u8> {
     [&[253], bytes, &[sum::pcs(bytes), 254]].concat()
 }
 
-fn pcs_section() -> String {
+fn pcs_section() -> (Lines, Lines) {
     let writer = |n: &[u8], data: &[u8], out: &mut [u8]| pcs::write(n[0], n[1], n[2], n[3], n[4], n[5], data, out);
     let mut s = Section::new("pcs", false, &writer);
     for (numbers, data) in PCS_MESSAGES {
@@ -488,10 +534,10 @@ fn pcs_section() -> String {
             pcs::Message { receiver: 1, sender: 1, kind: 0, number: 1, sender_port: 1, receiver_port: 1, length };
         s.part::<Pcs>(room, length, message);
     }
-    s.text
+    (s.lines, s.whole)
 }
 
-fn mdu_section() -> String {
+fn mdu_section() -> (Lines, Lines) {
     let writer = |n: &[u8], body: &[u8], out: &mut [u8]| mdu::write(n[0], body, out);
     let mut s = Section::new("mdu", true, &writer);
     let long = [0xB1, 0x00, 0x04, 0x47, 0xBA];
@@ -550,10 +596,10 @@ fn mdu_section() -> String {
     for (room, length) in [(1033, 1027), (1033, 1028), (6, 0), (5, 0)] {
         s.part::<Mdu>(room, length, mdu::Message { address: 1, length });
     }
-    s.text
+    (s.lines, s.whole)
 }
 
-fn dle_section() -> String {
+fn dle_section() -> (Lines, Lines) {
     let writer = |n: &[u8], data: &[u8], out: &mut [u8]| dle::write(n[0], n[1], data, out);
     let mut s = Section::new("dle", false, &writer);
     s.write(&[0x10, 3], given(&[0x64, 0x96]), 12);
@@ -609,10 +655,10 @@ fn dle_section() -> String {
     stream.extend(dle::error_frame(5, 6, 0x10));
     stream.extend([0x10, 0x02, 0x10, 0x07, 3, 0x10]);
     s.cut::<Dle>(&stream);
-    for (room, length) in [(258, 255), (258, 256), (3, 0), (2, 0)] {
+    for (room, length) in [(258, 255), (257, 255), (3, 0), (2, 0)] {
         s.part::<Dle>(room, length, dle::Message { sequence: 1, node: 1, error: None, length });
     }
-    s.text
+    (s.lines, s.whole)
 }
 
 fn expansion_closed(bytes: &[u8]) -> Vec<u8> {
@@ -620,7 +666,7 @@ fn expansion_closed(bytes: &[u8]) -> Vec<u8> {
     [&[0xFD], &escape::hide(&[bytes, &check].concat())[..], &[0xFE]].concat()
 }
 
-fn expansion_section() -> String {
+fn expansion_section() -> (Lines, Lines) {
     let writer = |n: &[u8], data: &[u8], out: &mut [u8]| expansion::write(n[0], n[1], n[2], n[3], data, out);
     let mut s = Section::new("expansion", false, &writer);
     for (numbers, data) in [
@@ -692,12 +738,12 @@ fn expansion_section() -> String {
     for (room, length) in [(1032, 1028), (1032, 1029), (4, 0), (3, 0)] {
         s.part::<Expansion>(room, length, expansion::Message { id: 1, kind: 0, repeat: 0, address: 0, length });
     }
-    s.text
+    (s.lines, s.whole)
 }
 
 /// The gate section's asking end.
 struct Ask {
-    text: String,
+    lines: Lines,
     asking: Asking,
 }
 
@@ -711,12 +757,12 @@ impl Ask {
             Answer::GivenUp => String::from("given-up"),
             Answer::Refused(number) => format!("refused {number}"),
         };
-        self.text += &format!("ask {called} {word} mode {}\n", asking.mode);
+        self.lines.add(&format!("ask {called}"), &format!("{word} mode {}", asking.mode));
     }
 
     fn fresh(&mut self) {
         self.asking = Asking::default();
-        self.text += "ask fresh\n";
+        self.lines.add("ask fresh", "");
     }
 
     fn start(&mut self, now: u32) {
@@ -734,7 +780,7 @@ impl Ask {
     fn state(&mut self, mode: u32, repeat: u8) {
         self.asking.mode = mode;
         self.asking.repeat = repeat;
-        self.text += &format!("ask state {mode} {repeat}\n");
+        self.lines.add(&format!("ask state {mode} {repeat}"), "");
     }
 
     fn cycle(&mut self, times: usize) {
@@ -746,7 +792,7 @@ impl Ask {
             }
             self.asking = gate::arrival(waiting, 1, last, 0).0;
         }
-        self.text += &format!("ask cycle {times} last {last}\n");
+        self.lines.add(&format!("ask cycle {times}"), &format!("last {last}"));
     }
 }
 
@@ -765,8 +811,8 @@ fn who(head: bool) -> &'static str {
     }
 }
 
-fn gate_section() -> String {
-    let mut ask = Ask { text: String::from("section gate\n"), asking: Asking::default() };
+fn gate_section() -> Lines {
+    let mut ask = Ask { lines: section("gate"), asking: Asking::default() };
     // Waits, repeats, giving up.
     ask.fresh();
     ask.tick(500);
@@ -821,11 +867,11 @@ fn gate_section() -> String {
         ask.arrival(2, 0, 0);
         ask.arrival(9, 9, 0);
     }
-    let mut text = ask.text;
+    let mut lines = ask.lines;
 
     for head in [false, true] {
         let mut answering = Answering::default();
-        text += "answer fresh\n";
+        lines.add("answer fresh", "");
         for (id, kind, repeat, address) in [
             (0, 1, 0, 9),
             (0, 2, 0, 9),
@@ -840,185 +886,211 @@ fn gate_section() -> String {
         ] {
             let (next, reply, handed) = gate::accepted(answering, head, id, kind, repeat, address);
             answering = next;
-            let words = reply_words(reply);
-            text += &format!("answer {} {id} {kind} {repeat} {address} {words} handed {}\n", who(head), handed as u8);
+            let call = format!("answer {} {id} {kind} {repeat} {address}", who(head));
+            lines.add(&call, &format!("{} handed {}", reply_words(reply), handed as u8));
         }
         for number in [4, 5, 6, 7, 8, 9] {
             let store = [77, 9, 9, 200, 1];
-            let words = reply_words(gate::refused(head, number, &store));
-            text += &format!("answer-refused {} {number} {} {words}\n", who(head), hex(&store));
+            let call = format!("answer-refused {} {number} {}", who(head), hex(&store));
+            lines.add(&call, &reply_words(gate::refused(head, number, &store)));
         }
     }
     for address in [0u8, 1, 2, 254, 255] {
-        text += &match gate::down(address) {
-            Ok(next) => format!("chain down {address} gives {next} here {}\n", gate::here(next) as u8),
-            Err(number) => format!("chain down {address} refused {number}\n"),
+        let down = match gate::down(address) {
+            Ok(next) => format!("gives {next} here {}", gate::here(next) as u8),
+            Err(number) => format!("refused {number}"),
         };
-        text += &match gate::up(address) {
-            Ok(next) => format!("chain up {address} gives {next}\n"),
-            Err(number) => format!("chain up {address} refused {number}\n"),
+        lines.add(&format!("chain down {address}"), &down);
+        let up = match gate::up(address) {
+            Ok(next) => format!("gives {next}"),
+            Err(number) => format!("refused {number}"),
         };
+        lines.add(&format!("chain up {address}"), &up);
     }
-    text
+    lines
 }
 
-fn copy_lines(payload: &[u8], room: usize) -> String {
+fn copy_lines(lines: &mut Lines, payload: &[u8], room: usize) {
     let mut fares: Vec<u32> = (1..=room as u32).collect();
     let mut signed_fares: Vec<i32> = (1..=room as i32).collect();
     let answer = |result: Result<usize, u8>| match result {
         Ok(count) => format!("count {count}"),
         Err(number) => format!("refused {number}"),
     };
-    let mut text = String::new();
     let word = bytes_word(payload);
     let result = answer(record::copy_unsigned(payload, &mut fares));
-    text += format!("copy unsigned {word} room {room} {result} places {}", words(&fares)).trim_end();
-    text += "\n";
+    lines.add(&format!("copy unsigned {word} room {room}"), &format!("{result} places {}", words(&fares)));
     let result = answer(record::copy_signed(payload, &mut signed_fares));
-    text += format!("copy signed {word} room {room} {result} places {}", words(&signed_fares)).trim_end();
-    text += "\n";
-    text
+    lines.add(&format!("copy signed {word} room {room}"), &format!("{result} places {}", words(&signed_fares)));
 }
 
-fn element_lines(payload: &[u8], number: usize) -> String {
+fn element_lines(lines: &mut Lines, payload: &[u8], number: usize) {
     let word = bytes_word(payload);
-    format!(
-        "element unsigned {word} {number} {}\nelement signed {word} {number} {}\n",
-        value_word(record::element_unsigned(payload, number)),
-        value_word(record::element_signed(payload, number))
-    )
+    let unsigned = value_word(record::element_unsigned(payload, number));
+    lines.add(&format!("element unsigned {word} {number}"), &unsigned);
+    let signed = value_word(record::element_signed(payload, number));
+    lines.add(&format!("element signed {word} {number}"), &signed);
 }
 
-fn made(called: String, room: usize, make: &dyn Fn(&mut [u8]) -> Result<usize, u8>) -> String {
-    let mut out = filled(room);
-    let answer = match make(&mut out) {
-        Ok(length) => format!("length {length} record {}", answer_word(&out[..length])),
-        Err(number) => format!("refused {number}"),
-    };
-    format!("make {called} room {room} {answer} memory {}\n", mix(&out))
+/// The section's makers of records.
+struct Make {
+    lines: Lines,
 }
 
-fn fares_word<T: ToString>(fares: &[T]) -> String {
-    if fares.is_empty() {
-        String::from("-")
-    } else if fares.len() > 16 {
-        format!("zeros{}", fares.len())
-    } else {
-        words(fares)
+impl Make {
+    fn made(&mut self, called: String, fares: String, room: usize, make: &dyn Fn(&mut [u8]) -> Result<usize, u8>) {
+        let mut out = filled(room);
+        let answer = match make(&mut out) {
+            Ok(length) => format!("length {length} record {}", answer_word(&out[..length])),
+            Err(number) => format!("refused {number}"),
+        };
+        let call = format!("make {called} room {room} fares {fares}");
+        self.lines.add(&call, &format!("{answer} memory {}", mix(&out)));
+    }
+
+    fn unsigned(&mut self, number: u8, address: u16, fares: &[u32], room: usize) {
+        let called = format!("unsigned {number} {address}");
+        self.made(called, fares_words(fares), room, &|out| record::write_unsigned(number, address, fares, out));
+    }
+
+    fn signed(&mut self, number: u8, address: u16, fares: &[i32], room: usize) {
+        let called = format!("signed {number} {address}");
+        self.made(called, fares_words(fares), room, &|out| record::write_signed(number, address, fares, out));
     }
 }
 
-fn make_unsigned(number: u8, address: u16, fares: &[u32], room: usize) -> String {
-    let called = format!("unsigned {number} {address} fares {}", fares_word(fares));
-    made(called, room, &|out| record::write_unsigned(number, address, fares, out))
+/// How many, and the fares themselves if they are few; many are zeros.
+fn fares_words<T: ToString>(fares: &[T]) -> String {
+    let given = if fares.len() > 4 { String::new() } else { words(fares) };
+    format!("{} {given}", fares.len()).trim_end().to_string()
 }
 
-fn make_signed(number: u8, address: u16, fares: &[i32], room: usize) -> String {
-    let called = format!("signed {number} {address} fares {}", fares_word(fares));
-    made(called, room, &|out| record::write_signed(number, address, fares, out))
-}
+const PAYLOADS: [&[u8]; 20] = [
+    &[2, 0, 0, 1, 0, 0x64, 0x96],
+    &[3, 0, 0, 1, 0, 0x64, 0x96],
+    &[1, 0, 0, 3, 0, 0, 128, 255],
+    &[2, 0xE6, 0x03, 2, 0, 0xFF, 0xFF, 0x00, 0x80],
+    &[3, 0xE6, 0x03, 2, 0, 0xFF, 0xFF, 0x00, 0x80],
+    &[4, 0xF2, 0x01, 2, 0, 0xFF, 0xFF, 0xFF, 0xFF, 0x00, 0x00, 0x00, 0x80],
+    &[5, 0xF2, 0x01, 2, 0, 0xFF, 0xFF, 0xFF, 0xFF, 0x00, 0x00, 0x00, 0x80],
+    // 16: too short, type, count 0, address plus count, length.
+    &[],
+    &[2, 0, 0, 1],
+    &[0, 0, 0, 1, 0, 1],
+    &[6, 0, 0, 1, 0, 1],
+    &[1, 0, 0, 0, 0],
+    &[1, 0xD0, 0x07, 1, 0, 1],
+    &[2, 0xE8, 0x03, 1, 0, 1, 1],
+    &[3, 0xE8, 0x03, 1, 0, 1, 1],
+    &[4, 0xF4, 0x01, 1, 0, 1, 1, 1, 1],
+    &[5, 0xF4, 0x01, 1, 0, 1, 1, 1, 1],
+    &[2, 0, 0, 1, 0, 1],
+    &[2, 0, 0, 1, 0, 1, 1, 1],
+    &[1, 0xFF, 0xFF, 1, 0, 1],
+];
 
-fn records_section() -> String {
-    let mut text = String::from("section records\n");
-    let payloads: [&[u8]; 20] = [
-        &[2, 0, 0, 1, 0, 0x64, 0x96],
-        &[3, 0, 0, 1, 0, 0x64, 0x96],
-        &[1, 0, 0, 3, 0, 0, 128, 255],
-        &[2, 0xE6, 0x03, 2, 0, 0xFF, 0xFF, 0x00, 0x80],
-        &[3, 0xE6, 0x03, 2, 0, 0xFF, 0xFF, 0x00, 0x80],
-        &[4, 0xF2, 0x01, 2, 0, 0xFF, 0xFF, 0xFF, 0xFF, 0x00, 0x00, 0x00, 0x80],
-        &[5, 0xF2, 0x01, 2, 0, 0xFF, 0xFF, 0xFF, 0xFF, 0x00, 0x00, 0x00, 0x80],
-        // 16: too short, type, count 0, address plus count, length.
-        &[],
-        &[2, 0, 0, 1],
-        &[0, 0, 0, 1, 0, 1],
-        &[6, 0, 0, 1, 0, 1],
-        &[1, 0, 0, 0, 0],
-        &[1, 0xD0, 0x07, 1, 0, 1],
-        &[2, 0xE8, 0x03, 1, 0, 1, 1],
-        &[3, 0xE8, 0x03, 1, 0, 1, 1],
-        &[4, 0xF4, 0x01, 1, 0, 1, 1, 1, 1],
-        &[5, 0xF4, 0x01, 1, 0, 1, 1, 1, 1],
-        &[2, 0, 0, 1, 0, 1],
-        &[2, 0, 0, 1, 0, 1, 1, 1],
-        &[1, 0xFF, 0xFF, 1, 0, 1],
-    ];
-    for payload in payloads {
-        let view = record::view(payload);
-        // A malformed one gives 16 everywhere: once is enough.
-        let rooms: &[usize] = if view.is_ok() { &[0, 1, 4] } else { &[0] };
-        let numbers: &[usize] = if view.is_ok() { &[0, 1, 2, 3] } else { &[0] };
-        for room in rooms {
-            text += &copy_lines(payload, *room);
-        }
-        for number in numbers {
-            text += &element_lines(payload, *number);
-        }
-        text += &match view {
-            Ok(view) => format!("view {} type {} count {}\n", bytes_word(payload), view.number, view.count),
-            Err(number) => format!("view {} refused {number}\n", bytes_word(payload)),
+fn views_section() -> Lines {
+    let mut lines = section("views");
+    for payload in PAYLOADS {
+        let answer = match record::view(payload) {
+            Ok(view) => format!("type {} count {}", view.number, view.count),
+            Err(number) => format!("refused {number}"),
         };
+        lines.add(&format!("view {}", bytes_word(payload)), &answer);
     }
     // Views whose fields are not the payload's.
-    let payload = payloads[3];
+    let payload = PAYLOADS[3];
     for (number, count) in [(2, 2), (2, 1), (2, 3), (3, 2), (0, 0)] {
         for element in [0, 1, 2] {
             let view = record::View { payload, number, count };
             let called = format!("{} {number} {count} {element}", hex(payload));
-            text += &format!("view-element unsigned {called} {}\n", value_word(view.element_unsigned(element)));
-            text += &format!("view-element signed {called} {}\n", value_word(view.element_signed(element)));
+            lines.add(&format!("view-element unsigned {called}"), &value_word(view.element_unsigned(element)));
+            lines.add(&format!("view-element signed {called}"), &value_word(view.element_signed(element)));
         }
     }
-    text += &make_unsigned(2, 0, &[38_500], 10);
-    text += &make_signed(3, 0, &[-27_036], 10);
-    text += &make_unsigned(2, 0, &[38_500], 7);
-    text += &make_unsigned(2, 0, &[38_500], 6);
-    text += &make_unsigned(1, 1997, &[0, 128, 255], 10);
-    text += &make_unsigned(1, 1998, &[0, 128, 255], 10);
-    text += &make_unsigned(2, 999, &[65_535], 10);
-    text += &make_unsigned(5, 499, &[4_294_967_295], 10);
-    text += &make_signed(3, 998, &[-32_768, 32_767], 10);
-    text += &make_signed(4, 498, &[-2_147_483_648, 2_147_483_647], 16);
-    // 3, before 2.
-    for (number, fare) in [(0, 0), (6, 0), (1, 256), (2, 65_536), (3, 0), (4, 0)] {
-        text += &make_unsigned(number, 0, &[fare], 10);
-        text += &make_unsigned(number, 0, &[fare], 0);
-    }
-    for (number, fare) in [(0, 0), (1, 0), (2, 0), (5, 0), (3, 32_768), (3, -32_769)] {
-        text += &make_signed(number, 0, &[fare], 10);
-        text += &make_signed(number, 0, &[fare], 0);
-    }
-    text += &make_unsigned(1, 0, &[], 10);
-    text += &make_signed(4, 0, &[], 10);
-    text += &make_unsigned(1, 2000, &[0], 10);
-    text += &make_unsigned(2, 1000, &[0], 10);
-    text += &make_signed(3, 1000, &[0], 10);
-    text += &make_signed(4, 500, &[0], 10);
-    text += &make_unsigned(5, 500, &[0], 10);
-    text += &make_unsigned(1, 65_535, &[0], 10);
-    // The whole length at most 1,024.
-    text += &make_unsigned(1, 0, &[0; 1019], 1024);
-    text += &make_unsigned(1, 0, &[0; 1019], 1023);
-    text += &make_unsigned(1, 0, &[0; 1020], 1100);
-    text += &make_unsigned(2, 0, &[0; 509], 1024);
-    text += &make_unsigned(2, 0, &[0; 510], 1100);
-    text += &make_signed(4, 0, &[0; 254], 1024);
-    text += &make_signed(4, 0, &[0; 255], 1100);
-    text
+    lines
 }
 
-pub fn vectors() -> String {
-    let sections = [
-        crc_section(),
-        examples_section(),
-        pcs_section(),
-        mdu_section(),
-        dle_section(),
-        expansion_section(),
-        gate_section(),
-        records_section(),
-    ];
-    sections.concat() + "end\n"
+fn records_section() -> Lines {
+    let mut lines = section("records");
+    for payload in PAYLOADS {
+        // A malformed one gives 16 everywhere: once is enough.
+        let is_record = record::view(payload).is_ok();
+        let rooms: &[usize] = if is_record { &[0, 1, 4] } else { &[0] };
+        let numbers: &[usize] = if is_record { &[0, 1, 2, 3] } else { &[0] };
+        for room in rooms {
+            copy_lines(&mut lines, payload, *room);
+        }
+        for number in numbers {
+            element_lines(&mut lines, payload, *number);
+        }
+    }
+    let mut make = Make { lines };
+    make.unsigned(2, 0, &[38_500], 10);
+    make.signed(3, 0, &[-27_036], 10);
+    make.unsigned(2, 0, &[38_500], 7);
+    make.unsigned(2, 0, &[38_500], 6);
+    make.unsigned(1, 1997, &[0, 128, 255], 10);
+    make.unsigned(1, 1998, &[0, 128, 255], 10);
+    make.unsigned(2, 999, &[65_535], 10);
+    make.unsigned(5, 499, &[4_294_967_295], 10);
+    make.signed(3, 998, &[-32_768, 32_767], 10);
+    make.signed(4, 498, &[-2_147_483_648, 2_147_483_647], 16);
+    // 3, before 2.
+    for (number, fare) in [(0, 0), (6, 0), (1, 256), (2, 65_536), (3, 0), (4, 0)] {
+        make.unsigned(number, 0, &[fare], 10);
+        make.unsigned(number, 0, &[fare], 0);
+    }
+    for (number, fare) in [(0, 0), (1, 0), (2, 0), (5, 0), (3, 32_768), (3, -32_769)] {
+        make.signed(number, 0, &[fare], 10);
+        make.signed(number, 0, &[fare], 0);
+    }
+    make.unsigned(1, 0, &[], 10);
+    make.signed(4, 0, &[], 10);
+    make.unsigned(1, 2000, &[0], 10);
+    make.unsigned(2, 1000, &[0], 10);
+    make.signed(3, 1000, &[0], 10);
+    make.signed(4, 500, &[0], 10);
+    make.unsigned(5, 500, &[0], 10);
+    make.unsigned(1, 65_535, &[0], 10);
+    // The whole length at most 1,024.
+    make.unsigned(1, 0, &[0; 1019], 1024);
+    make.unsigned(1, 0, &[0; 1019], 1023);
+    make.unsigned(1, 0, &[0; 1020], 1100);
+    make.unsigned(2, 0, &[0; 509], 1024);
+    make.unsigned(2, 0, &[0; 510], 1100);
+    make.signed(4, 0, &[0; 254], 1024);
+    make.signed(4, 0, &[0; 255], 1100);
+    make.lines
+}
+
+/// All lines; the host's calls only if they are asked for.
+fn lines(with_whole: bool) -> Lines {
+    let mut lines = crc_section();
+    lines.append(examples_section());
+    let mut whole = section("whole");
+    for (link, host) in [pcs_section(), mdu_section(), dle_section(), expansion_section()] {
+        lines.append(link);
+        whole.append(host);
+    }
+    lines.append(gate_section());
+    lines.append(records_section());
+    lines.append(views_section());
+    if with_whole {
+        lines.append(whole);
+    }
+    lines.add("end", "");
+    lines
+}
+
+/// The program's standard input.
+pub fn calls(with_whole: bool) -> String {
+    lines(with_whole).calls
+}
+
+/// What the program has to print.
+pub fn vectors(with_whole: bool) -> String {
+    lines(with_whole).answered
 }
 
 #[cfg(test)]
@@ -1027,26 +1099,25 @@ mod tests {
 
     #[test]
     fn examples() {
-        let expected = "section examples
-example 1 118
-example 2 96
-example 3 105
-example 4 123
-example 5 128
-example 6 AAD751D1800000
-example 7 D4C1
-example 8 988F
-example 9 10021010030264961003
-example 10 FF02FF01FF00
-example 11 38500
-example 12 -27036
-";
-        assert_eq!(examples_section(), expected);
+        let expected = [
+            "118", "96", "105", "123", "128", "AAD751D1800000", "D4C1", "988F", "10021010030264961003", "FF02FF01FF00",
+            "38500", "-27036",
+        ];
+        let text = examples_section().answered;
+        let values: Vec<&str> = text.lines().skip(1).filter_map(|line| line.split(' ').last()).collect();
+        assert_eq!(values, expected);
+    }
+
+    #[test]
+    fn each_line_begins_with_its_call() {
+        let (calls, text) = (calls(true), vectors(true));
+        assert_eq!(calls.lines().count(), text.lines().count());
+        assert!(calls.lines().zip(text.lines()).all(|(call, line)| line.starts_with(call)));
     }
 
     #[test]
     fn every_number_of_the_table_appears() {
-        let text = vectors();
+        let text = vectors(false);
         for number in 1..=18 {
             let word = format!("refused {number}");
             let seen = text.lines().any(|line| line.contains(&format!("{word} ")) || line.ends_with(&word));
