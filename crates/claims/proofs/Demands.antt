@@ -1,6 +1,11 @@
 -- Demands 2 and 3, from the theorems of each link.
 use Rattle.framing.specs.Claims as Claims
 use Rattle.checksum.proofs.CheckValue.{crc16-detects, crc32-detects}
+use Rattle.framing.proofs.Lawful.{writes-frame}
+use Rattle.pcs.specs.Contract as PcsLink
+use Rattle.mdu.specs.Contract as MduLink
+use Rattle.dle.specs.Contract as DleLink
+use Rattle.expansion.specs.Contract as ExpansionLink
 use Rattle.pcs.proofs.Theorems as Pcs
 use Rattle.mdu.proofs.Theorems as Mdu
 use Rattle.dle.proofs.Theorems as Dle
@@ -10,11 +15,11 @@ use Rattle.claims.specs.Demand2.{Demand2}
 use Rattle.claims.specs.Demand3.{Demand3}
 
 pub demand2 : Demand2
-demand2 pcs = record { reads-back = Pcs.reads-back; canonical = Pcs.canonical; cut-anywhere = Pcs.cut-anywhere; accounted = Pcs.accounted }
-demand2 mdu = record { reads-back = Mdu.reads-back; canonical = Mdu.canonical; cut-anywhere = Mdu.cut-anywhere; accounted = Mdu.accounted }
-demand2 dle = record { reads-back = Dle.reads-back; canonical = Dle.canonical; cut-anywhere = Dle.cut-anywhere; accounted = Dle.accounted }
+demand2 pcs = record { writes-frame = writes-frame PcsLink.link; reads-back = Pcs.reads-back; canonical = Pcs.canonical; cut-anywhere = Pcs.cut-anywhere; accounted = Pcs.accounted }
+demand2 mdu = record { writes-frame = writes-frame MduLink.link; reads-back = Mdu.reads-back; canonical = Mdu.canonical; cut-anywhere = Mdu.cut-anywhere; accounted = Mdu.accounted }
+demand2 dle = record { writes-frame = writes-frame DleLink.link; reads-back = Dle.reads-back; canonical = Dle.canonical; cut-anywhere = Dle.cut-anywhere; accounted = Dle.accounted }
 demand2 expansion =
-    record { reads-back = Expansion.reads-back; canonical = Expansion.canonical; cut-anywhere = Expansion.cut-anywhere; accounted = Expansion.accounted }
+    record { writes-frame = writes-frame ExpansionLink.link; reads-back = Expansion.reads-back; canonical = Expansion.canonical; cut-anywhere = Expansion.cut-anywhere; accounted = Expansion.accounted }
 
 pub demand3 : Demand3
 demand3 = record { calls = calls; mdu-check = crc16-detects; expansion-check = crc32-detects }

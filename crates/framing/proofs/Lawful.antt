@@ -11,13 +11,13 @@ use lib.Seq.{sets}
 use borrow.Author.Tests.{le-leb}
 use Rattle.runs.specs.Runs.{Bytes, over}
 use Rattle.runs.proofs.Bytes.{bytes-append}
-use Rattle.runs.proofs.Run.{part-sets}
+use Rattle.runs.proofs.Run.{part-sets, sets-over}
 use Rattle.framing.specs.Answer.{Outcome, done}
 use Rattle.framing.specs.Receiver.{Fed, stop, feed, events, last, drive, join}
 use Rattle.framing.specs.Segment.{Segment, noise, refused, accepted, Event, message, refusal, Config, step, eventOf, noiseAfter, wires}
 use Rattle.framing.specs.Writer.{writes}
 use Rattle.framing.specs.Link.{Link, Lent, stepOn, told, heardIn, called}
-use Rattle.framing.specs.Claims.{segments, openAt, ReadsBack, Canonical, CutAnywhere, Accounted, Demand3}
+use Rattle.framing.specs.Claims.{segments, openAt, WritesFrame, ReadsBack, Canonical, CutAnywhere, Accounted, Demand3}
 use Rattle.framing.proofs.Stored.{stored-done}
 use Rattle.framing.proofs.Cutting.{Follows, cutting, feed-follows}
 use Rattle.framing.proofs.Segments.{wireOpt, Accepts, AllAccept, accept-at, wires-append, partition, all-accepted, phase-last, heard-events, noise-last}
@@ -66,6 +66,15 @@ pub record Lawful (L : Link) : Type 1 where
 
 over-length : (front store : List ℕ) → length front ≤ length store → length (over front store) ≡ length store
 over-length front store h = simp (length-append, length-drop) (omega arith)
+
+-- what the writer leaves is the frame
+written-frame : (L : Link) (m : L .Message) (memory : List ℕ) → L .ok m ≡ true → length (L .frame m) ≤ length memory
+    → writes (L .ok) (L .frame) m memory ≡ (done (length (L .frame m)), sets memory 0 (L .frame m))
+written-frame L m memory o h = rw o (stored-done (L .frame m) memory 0 (omega arith))
+
+pub writes-frame : (L : Link) → WritesFrame L
+writes-frame L m memory o h =
+    written-frame L m memory o h ∙ ap (λ (l : List ℕ). (done (length (L .frame m)), l)) (sets-over (L .frame m) memory h)
 
 module _ (L : Link) (laws : Lawful L) where
   pub accounted : Accounted L
@@ -211,15 +220,10 @@ module _ (L : Link) (laws : Lawful L) where
           cutting (called L) (step (L .cut)) (Stands Counts (laws .open-of)) (follows Counts (laws .open-of)) (L .fresh, store) (at (L .hunting) 0) pieces y
           (stands-of Counts (laws .open-of) (L .hunting) 0 (L .fresh) store (laws .fresh-first) (laws .good-first) (rw (laws .gathered-first)) room)
 
-  -- what the writer leaves is the frame
-  written-frame : (m : L .Message) (memory : List ℕ) → L .ok m ≡ true → length (L .frame m) ≤ length memory
-      → writes (L .ok) (L .frame) m memory ≡ (done (length (L .frame m)), sets memory 0 (L .frame m))
-  written-frame m memory o h = rw o (stored-done (L .frame m) memory 0 (omega arith))
-
   pub reads-back : ReadsBack L
   reads-back m memory rest s store t o h y k p room =
       record {
-        answers = ap (λ (w : Outcome ℕ × List ℕ). w .0) (written-frame m memory o h);
+        answers = ap (λ (w : Outcome ℕ × List ℕ). w .0) (written-frame L m memory o h);
         hears = ap (λ (f : Heard). f .event) same ∙ f .event ∙ ap (λ (f : Fed (Event (L .Message)) (Config (L .Phase))). f .event) e;
         uses = ap (λ (f : Heard). f .used) same ∙ f .used ∙ ap (λ (f : Fed (Event (L .Message)) (Config (L .Phase))). f .used) e;
         quiet = ap (λ (f : Heard). L .noise (f .after .0)) same ∙ f .after .noise ∙ ap (λ (f : Fed (Event (L .Message)) (Config (L .Phase))). f .after .noise) e;
@@ -234,7 +238,7 @@ module _ (L : Link) (laws : Lawful L) where
       same : called L (s, store) (take (length (L .frame m)) (writes (L .ok) (L .frame) m memory .1) ++ rest) ≡ called L (s, store) (L .frame m ++ rest)
       same =
           ap (λ (w : List ℕ). called L (s, store) (w ++ rest))
-          (ap (λ (w : Outcome ℕ × List ℕ). take (length (L .frame m)) (w .1)) (written-frame m memory o h) ∙ part-sets memory 0 (L .frame m) (omega arith))
+          (ap (λ (w : Outcome ℕ × List ℕ). take (length (L .frame m)) (w .1)) (written-frame L m memory o h) ∙ part-sets memory 0 (L .frame m) (omega arith))
 
       stands : Stands Any (λ _ _. tt) (s, store) (at (L .hunting) (L .noise s))
       stands =

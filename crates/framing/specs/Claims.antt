@@ -6,7 +6,7 @@ use mathlib.Core.Bool.{true}
 use mathlib.Core.List.{List, [], _∷_, _++_}
 use mathlib.Core.Option.{some}
 use lib.ListN.{length, take}
-use Rattle.runs.specs.Runs.{Bytes, Begins}
+use Rattle.runs.specs.Runs.{Bytes, over, Begins}
 use Rattle.framing.specs.Answer.{done}
 use Rattle.framing.specs.Receiver.{Fed, events, last, drive, join}
 use Rattle.framing.specs.Segment.{Segment, accepted, Event, message, heard, noiseOf, wires}
@@ -25,6 +25,12 @@ module _ (L : Link) where
 
   abbrev pub openAt : List ℕ → List ℕ
   openAt bs = L .held (last (L .cut) (L .hunting) bs)
+
+  -- writes the frame: in memory that holds it, a message that may be sent leaves exactly its frame at the start, and nothing after it is changed
+  abbrev pub WritesFrame : Type 0
+  WritesFrame =
+      (m : L .Message) (memory : List ℕ) → L .ok m ≡ true → length (L .frame m) ≤ length memory
+      → writeOn L m memory ≡ (done (length (L .frame m)), over (L .frame m) memory)
 
   -- what a caller of the receiver has of the bytes that the writer left in a memory, with anything behind them
   abbrev pub sentTo : L .State × List ℕ → L .Message → List ℕ → List ℕ → Fed (Event (L .Message)) (L .State × List ℕ)
