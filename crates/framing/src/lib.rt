@@ -66,11 +66,11 @@ pub fn reopen(state: State, mode: usize, count: usize, open: u32) -> State
 pub fn hold(state: State, mode: usize, count: usize) -> State
     ensures { λ r. ⌜ r ≡ record { mode = mode; count = count; «open» = (state .«open» + 1) % 2 ^ 32; noise = state .noise } ⌝ }
 {
-    let open = std::num::wrapping_add_u32(state.open, 1);
+    let held = std::num::wrapping_add_u32(state.open, 1);
     State {
         mode: mode,
         count: count,
-        open: open,
+        open: held,
         noise: state.noise,
     }
 }
@@ -92,10 +92,5 @@ pub fn add_noise(state: State, bytes: u32) -> State
 pub fn close(state: State) -> State
     ensures { λ r. ⌜ r ≡ record { mode = 0; count = 0; «open» = 0; noise = state .noise } ⌝ }
 {
-    State {
-        mode: 0,
-        count: 0,
-        open: 0,
-        noise: state.noise,
-    }
+    reopen(state, 0, 0, 0)
 }
