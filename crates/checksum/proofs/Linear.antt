@@ -1,7 +1,7 @@
 -- The register is linear: the xor of two registers gives the xor of what they become. So j bits may leave at once.
 use mathlib.Core.Path.{_≡_, refl, sym, ap, ap₂, _∙_}
 use Prim.Native.Nat.{ℕ, zero, suc, _+_, _*_, _/_, _%_, _^_, _<_}
-use native.Mathlib.Nat.{add-mod, mod-lt, zero-mul, one-mul, mul-one}
+use native.Mathlib.Nat.{add-mod, mod-lt, zero-add, suc-add, zero-mul, one-mul, mul-one}
 use native.Mathlib.Omega.{arith}
 use lib.Bits.{bitXor, xor-zero-r, xor-comm, xor-self, xor-shifted, shifted-half, shifted-even}
 use lib.Pow.{pow-pos, split}
@@ -37,8 +37,14 @@ unfolding shifts
 shifts-sum p zero a b = refl
 shifts-sum p (suc j) a b = ap (shifts p j) (shift-sum p a b) ∙ shifts-sum p j (shift p a) (shift p b)
 
+-- i bits leave, then j
+pub shifts-add : (p i j a : ℕ) → shifts p (i + j) a ≡ shifts p j (shifts p i a)
+unfolding shifts
+shifts-add p zero j a = rw zero-add
+shifts-add p (suc i) j a = rw suc-add (shifts-add p i j (shift p a))
+
 -- j zero bits leave, and bring nothing in
-shifts-zeros : (p j a : ℕ) → shifts p j (a * 2 ^ j) ≡ a
+pub shifts-zeros : (p j a : ℕ) → shifts p j (a * 2 ^ j) ≡ a
 unfolding shifts
 shifts-zeros p zero a = mul-one a
 shifts-zeros p (suc j) a = ap (shifts p j) down ∙ shifts-zeros p j a

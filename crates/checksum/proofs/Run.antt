@@ -1,13 +1,18 @@
--- The register after a run in parts, for any register constant p: two parts, one byte more, one bit more.
+-- The register after a run in parts, for any register constant p: two parts, some bytes more, all bits at once.
 use mathlib.Core.Path.{_≡_, refl, sym, ap, ap₂, _∙_}
 use mathlib.Core.List.{List, [], _∷_, _++_}
-use Prim.Native.Nat.{ℕ, zero, suc, _+_, _-_, _^_, _≤_, _<_}
+use Prim.Native.Nat.{ℕ, zero, suc, _+_, _*_, _-_, _^_, _≤_, _<_}
 use native.Mathlib.Omega.{arith}
-use lib.Bits.{bitXor}
-use lib.ListN.{length, getD, drop, drop-of-length-le}
-use Rattle.runs.proofs.Bytes.{drop-next}
-use Rattle.checksum.specs.Crc.{shift, shifts, byteStep, run, crc16Of, crc32Of}
-use Rattle.checksum.proofs.Xor.{xor-undo}
+use lib.Bits.{bitXor, xor-zero-r, xor-comm, xor-shifted}
+use lib.ListN.{length, getD, take, drop, length-drop, drop-of-length-le, take-append-drop}
+use lib.Seq.{drop-drop, length-take-le}
+use Rattle.runs.proofs.Bytes.{drop-next, bytes-take, bytes-drop}
+use Rattle.runs.specs.Runs.{Bytes}
+use Rattle.runs.specs.Number.{number}
+use Rattle.checksum.specs.Crc.{shifts, byteStep, run, crc16Of, crc32Of}
+use Rattle.checksum.specs.Nibbles.{AfterBytes}
+use Rattle.checksum.proofs.Xor.{xor-undo, xor-assoc}
+use Rattle.checksum.proofs.Linear.{shifts-add, shifts-sum, shifts-zeros}
 
 pub run-append : (p c : ℕ) (u v : List ℕ) → run p c (u ++ v) ≡ run p (run p c u) v
 unfolding run
@@ -29,32 +34,47 @@ crc32-append u v =
     ap (λ (x : ℕ). bitXor x (2 ^ 32 - 1))
     (run-joined 0xEDB88320 (2 ^ 32 - 1) u v (xor-undo (run 0xEDB88320 (2 ^ 32 - 1) u) (2 ^ 32 - 1)) refl)
 
--- c is the register after the first i bytes of the run u, from the start s: the bytes that are left give the register after u
-abbrev pub AfterBytes : ℕ → ℕ → List ℕ → ℕ → ℕ → Type 0
-AfterBytes p s u i c = (i ≤ length u) × (run p c (drop i u) ≡ run p s u)
-
 pub bytes-start : (p s : ℕ) (u : List ℕ) → AfterBytes p s u 0 s
 bytes-start p s u = (omega arith, refl)
 
-pub bytes-next : (p s : ℕ) (u : List ℕ) (i c d : ℕ) → AfterBytes p s u i c → i < length u → d ≡ byteStep p c (getD u i 0)
-    → AfterBytes p s u (i + 1) d
-unfolding run
-bytes-next p s u i c d a h e =
-    (omega arith, ap (λ (x : ℕ). run p x (drop (i + 1) u)) e ∙ sym (ap (run p c) (drop-next u i h)) ∙ a .1)
+-- n bytes more
+pub bytes-more : (p s : ℕ) (u : List ℕ) (i n c d : ℕ) → AfterBytes p s u i c → i + n ≤ length u → d ≡ run p c (take n (drop i u)) → AfterBytes p s u (i + n) d
+bytes-more p s u i n c d a h e = (
+  h,
+  ap₂ (run p) e (sym (drop-drop n i u)) ∙ sym (run-append p c (take n (drop i u)) (drop n (drop i u))) ∙ ap (run p c) (take-append-drop n (drop i u)) ∙ a .1,
+)
+
+-- the register after a run of bytes, as one number: all their bits leave at once
+pub run-number : (p c : ℕ) (u : List ℕ) → Bytes u → run p c u ≡ shifts p (8 * length u) (bitXor c (number u))
+unfolding run byteStep number shifts
+run-number p c [] h = sym (xor-zero-r c)
+run-number p c (b ∷ u) h =
+    run-number p (shifts p 8 (bitXor c b)) u (λ i. h (suc i))
+    ∙ ap (λ (x : ℕ). shifts p (8 * length u) (bitXor (shifts p 8 (bitXor c b)) x)) (sym (shifts-zeros p 8 (number u)))
+    ∙ ap (shifts p (8 * length u)) (sym (shifts-sum p 8 (bitXor c b) (number u * 2 ^ 8)))
+    ∙ sym (shifts-add p 8 (8 * length u) (bitXor (bitXor c b) (number u * 2 ^ 8)))
+    ∙ ap₂ (shifts p) bits joined
+  where
+    bits : 8 + 8 * length u ≡ 8 * suc (length u)
+    bits = omega arith
+
+    joined : bitXor (bitXor c b) (number u * 2 ^ 8) ≡ bitXor c (number u * 2 ^ 8 + b)
+    joined = xor-assoc c b (number u * 2 ^ 8) ∙ ap (bitXor c) (xor-comm b (number u * 2 ^ 8) ∙ xor-shifted (number u) 8 b (h 0))
+
+-- one byte more
+pub bytes-next : (p s : ℕ) (u : List ℕ) (i c d : ℕ) → AfterBytes p s u i c → i < length u → d ≡ shifts p 8 (bitXor c (getD u i 0)) → AfterBytes p s u (i + 1) d
+unfolding run byteStep
+bytes-next p s u i c d a h e = bytes-more p s u i 1 c d a (omega arith) (e ∙ sym (ap (λ (l : List ℕ). run p c (take 1 l)) (drop-next u i h)))
+
+-- a word more
+pub bytes-word : (p s : ℕ) (u : List ℕ) (i c d w : ℕ) → AfterBytes p s u i c → Bytes u → i + 4 ≤ length u → w ≡ number (take 4 (drop i u))
+    → d ≡ shifts p 32 (bitXor c w) → AfterBytes p s u (i + 4) d
+bytes-word p s u i c d w a b h e f =
+    let part = take 4 (drop i u) in
+    let long : length part ≡ 4 = length-take-le 4 (drop i u) (simp length-drop (omega arith)) in
+    bytes-more p s u i 4 c d a h
+    (f ∙ ap₂ (λ (n x : ℕ). shifts p (8 * n) (bitXor c x)) (sym long) e ∙ sym (run-number p c part (bytes-take 4 (drop i u) (bytes-drop i u b))))
 
 pub bytes-end : (p s : ℕ) (u : List ℕ) (i c : ℕ) → AfterBytes p s u i c → length u ≤ i → c ≡ run p s u
 unfolding run
 bytes-end p s u i c a h = sym (ap (run p c) (drop-of-length-le u h)) ∙ a .1
-
--- k bits are still to leave the register x, which then is r: one leaves, and none is left
-pub bits-next : (p k x y r : ℕ) → shifts p k x ≡ r → 0 < k → y ≡ shift p x → shifts p (k - 1) y ≡ r
-unfolding shifts
-bits-next p zero x y r e h q = absurd (omega arith)
-bits-next p (suc k) x y r e h q =
-    let one : suc k - 1 ≡ k = omega arith in
-    ap₂ (shifts p) one q ∙ e
-
-pub bits-end : (p k x r : ℕ) → shifts p k x ≡ r → k ≤ 0 → x ≡ r
-unfolding shifts
-bits-end p zero x r e h = e
-bits-end p (suc k) x r e h = absurd (omega arith)

@@ -1,4 +1,4 @@
 pub mod Crc
-pub mod ShiftTable
+pub mod Nibbles
 pub mod Sum
 pub mod Claims

@@ -1,97 +1,144 @@
-// The check values of the links: the CRC of MDU, bit by bit, the CRC of the expansion link, by a table, and the sum of PCS.
+// The check values of the links: the CRCs of MDU and of the expansion link, four bytes at a time by tables, and the sum of PCS.
 mod table;
 
-use table::BYTES32;
+use table::NIBBLES16;
+use table::NIBBLES32;
 ghost use mathlib.Core.Path.{_≡_};
 ghost use mathlib.Core.List.{_++_};
-ghost use Rattle.checksum.specs.Crc.{shift, byteStep, run, crc16Of, crc32Of};
-ghost use Rattle.checksum.specs.ShiftTable.{ShiftTable};
+ghost use Prim.Native.Nat.{ℕ, _+_, _*_, _-_, _/_, _%_, _^_, _≤_, _<_};
+ghost use lib.ListN.{length, take, drop};
+ghost use Rattle.runs.specs.Number.{number};
+ghost use Rattle.checksum.specs.Crc.{shifts, run, crc16Of, crc32Of};
+ghost use Rattle.checksum.specs.Nibbles.{NibbleTable, AfterBytes};
 ghost use Rattle.checksum.specs.Sum.{totalOf, lowered, sumOf};
 
-// One bit leaves the 16-bit register. The bit, as 16 equal bits, picks the constant or nothing, with no branch.
-fn shift16(c: u16) -> u16
-    ensures { λ r. ⌜ r ≡ shift 0xA001 c ⌝ }
+// The table of the CRC of MDU, to be laid out once a call and lent: a constant is copied at each use.
+fn table16() -> [u32; 128]
+    ensures { λ r. ⌜ NibbleTable 0xA001 r ⌝ }
 {
-    (c / 2) ^ (c % 2 * 0xFFFF & 0xA001)
+    NIBBLES16
 }
 
-// One byte goes into the 16-bit register.
-fn step16(c: u16, b: u8) -> u16
-    ensures { λ r. ⌜ r ≡ byteStep 0xA001 c b ⌝ }
+// The table of the CRC of the expansion link.
+fn table32() -> [u32; 128]
+    ensures { λ r. ⌜ NibbleTable 0xEDB8_8320 r ⌝ }
 {
-    let mut x = c ^ (b as u16);
-    let mut left: usize = 8;
-    while left > 0 {
-        x = shift16(x);
-        left -= 1;
+    NIBBLES32
+}
+
+// The entry of a row for the lowest four bits.
+fn entry(table: &[u32; 128], row: usize, bits: u32) -> u32
+    requires { ⌜ row < 8 ⌝ }
+    ensures { λ r. ⌜ ((p : ℕ) → NibbleTable p (now (table .entry)) → r ≡ shifts p (32 - row * 4) (bits % 16)) ⌝ }
+{
+    table[row * 16 + (bits % 16) as usize]
+}
+
+// Eight bits leave the register.
+fn shift8(table: &[u32; 128], c: u32) -> u32
+    ensures { λ r. ⌜ ((p : ℕ) → NibbleTable p (now (table .entry)) → r ≡ shifts p 8 c) ⌝ }
+{
+    let c1 = c / 16;
+    entry(table, 6, c) ^ (entry(table, 7, c1) ^ (c1 / 16))
+}
+
+// All bits of a word leave the register.
+fn shift32(table: &[u32; 128], c: u32) -> u32
+    ensures { λ r. ⌜ ((p : ℕ) → NibbleTable p (now (table .entry)) → r ≡ shifts p 32 c) ⌝ }
+{
+    let c1 = c / 16;
+    let c2 = c1 / 16;
+    let c3 = c2 / 16;
+    let c4 = c3 / 16;
+    let c5 = c4 / 16;
+    let c6 = c5 / 16;
+    let upper = entry(table, 4, c4)
+        ^ (entry(table, 5, c5) ^ (entry(table, 6, c6) ^ entry(table, 7, c6 / 16)));
+    entry(table, 0, c)
+        ^ (entry(table, 1, c1) ^ (entry(table, 2, c2) ^ (entry(table, 3, c3) ^ upper)))
+}
+
+// A byte as a number of 32 bits.
+fn wide(byte: u8) -> u32
+    ensures { λ r. ⌜ r ≡ byte ⌝ }
+{
+    byte as u32
+}
+
+// The number of two bytes.
+fn pair(low: u8, high: u8) -> u32
+    ensures is { λ r. ⌜ r ≡ high * 256 + low ⌝ }
+    ensures fits { λ r. ⌜ r < 2 ^ 16 ⌝ }
+{
+    wide(high) * 256 + wide(low)
+}
+
+// The number of the four bytes from a place on, low byte first.
+fn word(bytes: &[u8], at: usize) -> u32
+    requires { ⌜ at + 4 ≤ length (now bytes) ⌝ }
+    ensures { λ r. ⌜ r ≡ number (take 4 (drop at (now (bytes .entry)))) ⌝ }
+{
+    pair(bytes[at + 2], bytes[at + 3]) * 0x1_0000 + pair(bytes[at], bytes[at + 1])
+}
+
+// The register after as many bytes as make whole words: the bytes behind them lead from it to what all bytes lead to.
+fn after_words(table: &[u32; 128], start: u32, bytes: &[u8]) -> u32
+    ensures { λ r. ⌜ ((p : ℕ) → NibbleTable p (now (table .entry)) → AfterBytes p start (now (bytes .entry)) (length (now (bytes .entry)) / 4 * 4) r) ⌝ }
+{
+    let whole = bytes.len() / 4 * 4;
+    let mut c = start;
+    let mut i = 0;
+    while i < whole {
+        c = shift32(table, c ^ word(bytes, i));
+        i += 4;
     }
-    x
+    c
 }
 
-// The 16-bit register after the bytes.
-fn run16(start: u16, bytes: &[u8]) -> u16
-    ensures { λ r. ⌜ r ≡ run 0xA001 start (now (bytes .entry)) ⌝ }
+// The register after the bytes, one by one.
+fn after_bytes(table: &[u32; 128], start: u32, bytes: &[u8]) -> u32
+    ensures { λ r. ⌜ ((p : ℕ) → NibbleTable p (now (table .entry)) → r ≡ run p start (now (bytes .entry))) ⌝ }
 {
     let mut c = start;
     let mut i = 0;
     while i < bytes.len() {
-        c = step16(c, bytes[i]);
+        c = shift8(table, c ^ wide(bytes[i]));
         i += 1;
     }
     c
+}
+
+// The register after the bytes.
+fn after(table: &[u32; 128], start: u32, bytes: &[u8]) -> u32
+    ensures { λ r. ⌜ ((p : ℕ) → NibbleTable p (now (table .entry)) → r ≡ run p start (now (bytes .entry))) ⌝ }
+{
+    let whole = bytes.len() / 4 * 4;
+    let c = after_words(table, start, bytes);
+    after_bytes(table, c, &bytes[whole..])
 }
 
 // The CRC of MDU, of these bytes.
 pub fn crc16(bytes: &[u8]) -> u16
     ensures { λ r. ⌜ r ≡ crc16Of (now (bytes .entry)) ⌝ }
 {
-    run16(0, bytes)
-}
-
-// The table of the 32-bit register, to be laid out once a call and lent: a constant is copied at each use.
-fn byte_table() -> [u32; 256]
-    ensures { λ r. ⌜ ShiftTable 0xEDB8_8320 8 r ⌝ }
-{
-    BYTES32
-}
-
-// One byte goes into the 32-bit register.
-fn step32(table: &[u32; 256], c: u32, b: u8) -> u32
-    requires { ⌜ ShiftTable 0xEDB8_8320 8 (now table) ⌝ }
-    ensures { λ r. ⌜ r ≡ byteStep 0xEDB8_8320 c b ⌝ }
-{
-    let x = c ^ (b as u32);
-    table[(x % 256) as usize] ^ (x / 256)
-}
-
-// The 32-bit register after the bytes.
-fn run32(table: &[u32; 256], start: u32, bytes: &[u8]) -> u32
-    requires { ⌜ ShiftTable 0xEDB8_8320 8 (now table) ⌝ }
-    ensures { λ r. ⌜ r ≡ run 0xEDB8_8320 start (now (bytes .entry)) ⌝ }
-{
-    let mut c = start;
-    let mut i = 0;
-    while i < bytes.len() {
-        c = step32(table, c, bytes[i]);
-        i += 1;
-    }
-    c
+    let table = table16();
+    after(&table, 0, bytes) as u16
 }
 
 // The CRC of the expansion link, of these bytes.
 pub fn crc32(bytes: &[u8]) -> u32
     ensures { λ r. ⌜ r ≡ crc32Of (now (bytes .entry)) ⌝ }
 {
-    let table = byte_table();
-    run32(&table, 0xFFFF_FFFF, bytes) ^ 0xFFFF_FFFF
+    let table = table32();
+    after(&table, 0xFFFF_FFFF, bytes) ^ 0xFFFF_FFFF
 }
 
 // The CRC of the expansion link, of two parts, one after the other.
 pub fn crc32_joined(head: &[u8], tail: &[u8]) -> u32
     ensures { λ r. ⌜ r ≡ crc32Of (now (head .entry) ++ now (tail .entry)) ⌝ }
 {
-    let table = byte_table();
-    run32(&table, run32(&table, 0xFFFF_FFFF, head), tail) ^ 0xFFFF_FFFF
+    let table = table32();
+    after(&table, after(&table, 0xFFFF_FFFF, head), tail) ^ 0xFFFF_FFFF
 }
 
 // The bytes added up, modulo 256.

@@ -5,14 +5,14 @@ use lib.Bits.{bitXor}
 use Rattle.checksum.proofs.crc32.Statement.{statement}
 use Rattle.checksum.proofs.crc32.Tie as tie
 
-byte-table-requires : tie.Need-byte-table-requires
-byte-table-requires c κs = search needs
+table32-requires : tie.Need-table32-requires
+table32-requires c κs = search needs
 
-run32-requires : tie.Need-run32-requires
-run32-requires c κs = search needs
+after-requires : tie.Need-after-requires
+after-requires c κs = search needs
 
 returns : tie.Need-returns
-returns c = ap (λ (x : ℕ). bitXor x (2 ^ 32 - 1)) (c .run32 .ensures)
+returns c = ap (λ (x : ℕ). bitXor x (2 ^ 32 - 1)) (c .after .ensures 0xEDB88320 (c .before .before .table32 .ensures))
 
 pub crc32-spec : {M : Type 1} → statement M
-crc32-spec = tie.close (tie.spec byte-table-requires run32-requires returns)
+crc32-spec = tie.close (tie.spec table32-requires after-requires returns)

@@ -1,0 +1,60 @@
+use Prim.Native.Nat.{ℕ, _-_, _/_, _%_, _*_, _≤_}
+use mathlib.Core.Path.{_≡_, refl, subst}
+use native.Mathlib.Omega.{arith}
+use lib.ListN.{length}
+use Rattle.checksum.specs.Nibbles.{NibbleTable, AfterBytes}
+use Rattle.checksum.proofs.Run.{bytes-start, bytes-word}
+use Rattle.checksum.proofs.after_words.Statement.{statement}
+use Rattle.checksum.proofs.after_words.Tie as tie
+
+abbrev Inv-loop : tie.InvT-loop
+Inv-loop table start bytes whole c₀ i₀ c i =
+    (i ≤ whole) × (i % 4 ≡ 0) × (whole ≡ length bytes / 4 * 4) × ((p : ℕ) → NibbleTable p table → AfterBytes p start bytes i c)
+
+abbrev μ-loop : tie.MeasureT-loop
+μ-loop table start bytes whole c₀ i₀ c i = whole - i
+
+mul-whole : tie.Need-mul-whole Inv-loop μ-loop
+mul-whole c = omega arith
+
+loop-holds : tie.Need-loop-holds Inv-loop μ-loop
+loop-holds c = (omega arith, refl, refl, λ p rule. bytes-start p _ _)
+
+word-requires : tie.Need-word-requires Inv-loop μ-loop
+word-requires c κs = omega arith
+
+shift32-requires : tie.Need-shift32-requires Inv-loop μ-loop
+shift32-requires c κs = tt
+
+add-i : tie.Need-add-i Inv-loop μ-loop
+add-i c = omega arith
+
+loop-less : tie.Need-loop-less Inv-loop μ-loop
+loop-less c = omega arith
+
+loop-again : tie.Need-loop-again Inv-loop μ-loop
+loop-again c =
+    let l = c .before .before .before in
+    (omega arith, omega arith, l .loop .inv .2, λ p rule. bytes-word p _ _ _ _ _ _ (l .loop .inv .3 p rule) (λ i. l .before .shared-slice-known .given i .fits) (omega arith) (c .before .word .ensures) (c .shift32 .ensures p rule))
+
+returns : tie.Need-returns Inv-loop μ-loop
+returns c p rule =
+    let l = c .before .loop in
+    let a = c .before .before .before .args in
+    let e : l .i ≡ length (a .bytes .now) / 4 * 4 = omega arith in
+    subst (λ (n : ℕ). AfterBytes p (a .start) (a .bytes .now) n (l .c)) e (l .inv .3 p rule)
+
+pub after-words-spec : {M : Type 1} → statement M
+after-words-spec =
+    tie.close
+    (tie.spec
+    Inv-loop
+    μ-loop
+    mul-whole
+    loop-holds
+    word-requires
+    shift32-requires
+    add-i
+    loop-less
+    loop-again
+    returns)

@@ -1,0 +1,27 @@
+use borrow.Author.Needs.{needs}
+use mathlib.Core.Path.{_≡_}
+use native.Mathlib.Omega.{arith}
+use Rattle.checksum.specs.Crc.{crc16Of}
+use Rattle.checksum.proofs.CheckValue.{crc16-lt}
+use Rattle.checksum.proofs.crc16.Statement.{statement}
+use Rattle.checksum.proofs.crc16.Tie as tie
+
+table16-requires : tie.Need-table16-requires
+table16-requires c κs = search needs
+
+after-requires : tie.Need-after-requires
+after-requires c κs = search needs
+
+value : (c : tie.After-after) → c .after .result ≡ crc16Of (c .before .before .before .before .args .bytes .now)
+value c = c .after .ensures 0xA001 (c .before .before .table16 .ensures)
+
+cast-result : tie.Need-cast-result
+cast-result c =
+    let s = c .before .before .before in
+    omega (arith, value c, crc16-lt (s .before .args .bytes .now) (λ i. s .shared-slice-known .given i .fits))
+
+returns : tie.Need-returns
+returns c = value c
+
+pub crc16-spec : {M : Type 1} → statement M
+crc16-spec = tie.close (tie.spec table16-requires after-requires cast-result returns)
