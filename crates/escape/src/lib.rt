@@ -122,6 +122,18 @@ fn fits(at: usize, size: usize, memory: usize) -> bool
     at <= memory && size <= memory - at
 }
 
+// Whether a run of bytes, hidden, fits at a place of a memory. Where two wire bytes for each fit, they need not be counted.
+fn has_room(escapes: Escapes, bytes: &[u8], at: usize, memory: usize) -> bool
+    ensures { λ r. ⌜ r ≡ leb (at + length (each (runOf escapes) (now (bytes .entry)))) memory ⌝ }
+{
+    if at <= memory && bytes.len() <= (memory - at) / 2 {
+        true
+    } else {
+        let size = length_by(escapes, bytes);
+        fits(at, size, memory)
+    }
+}
+
 // Stores a byte at a place, hidden, and tells how many wire bytes it took.
 fn put_byte(escapes: Escapes, byte: u8, out: &mut [u8], at: usize) -> usize
     requires { ⌜ (escapes .escape ≤ escapes .top) × (at + length (runOf escapes byte) ≤ length (now out)) ⌝ }
@@ -159,8 +171,7 @@ fn hide_by(escapes: Escapes, bytes: &[u8], out: &mut [u8], at: usize) -> Answer
     requires { ⌜ escapes .escape ≤ escapes .top ⌝ }
     ensures { λ r. ⌜ (outcomeOf r, now (out .exit)) ≡ storedAt (each (runOf escapes) (now (bytes .entry))) (now (out .entry)) at ⌝ }
 {
-    let size = length_by(escapes, bytes);
-    if fits(at, size, out.len()) {
+    if has_room(escapes, bytes, at, out.len()) {
         let n = put_bytes(escapes, bytes, out, at);
         Answer::Done(n)
     } else {
