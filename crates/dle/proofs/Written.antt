@@ -28,6 +28,9 @@ module _ (header rest : List ℕ) where
   pub frame-length : length (enclose (header ++ rest)) ≡ 2 + length (hide dle header) + length (hide dle rest) + 2
   frame-length = ap length parts ∙ simp length-append (omega arith)
 
+  pub frame-most : length (enclose (header ++ rest)) ≤ 2 * (length header + length rest) + 4
+  frame-most = omega (arith, frame-length, hide-short dle dle-lawful header, hide-short dle dle-lawful rest)
+
   module _ (memory marked headed filled : List ℕ) (place end : ℕ) (place-is : place ≡ 2 + length (hide dle header))
       (end-is : end ≡ place + length (hide dle rest)) where
     pub frame-stored : (after : List ℕ) → marked ≡ sets memory 0 (0x10 ∷ 0x02 ∷ []) → headed ≡ sets marked 2 (hide dle header)

@@ -7,6 +7,7 @@ ghost use mathlib.Core.Path.{_≡_};
 ghost use mathlib.Core.List.{List, [], _∷_, _++_};
 ghost use mathlib.Core.Option.{some};
 ghost use Prim.Native.Nat.{ℕ, _+_, _≤_};
+ghost use lib.Dec.{leb};
 ghost use lib.ListN.{length, take};
 ghost use lib.Seq.{sets};
 ghost use Rattle.runs.specs.Runs.{over};
@@ -62,28 +63,53 @@ fn put_mark(out: &mut [u8], at: usize, first: u8, second: u8)
     out[at + 1] = second;
 }
 
-// Stores a frame at the start: the mark 10 02, the header, the data from its place on, and behind it the mark 10 03.
-fn put_frame(header: &[u8], data: &[u8], out: &mut [u8], place: usize, end: usize)
-    requires { ⌜ (place ≡ 2 + length (hide dle (now header))) × (end ≡ place + length (hide dle (now «data»))) × (end + 2 ≤ length (now out)) ⌝ }
-    ensures { λ r. ⌜ now (out .exit) ≡ sets (now (out .entry)) 0 (enclose (now (header .entry) ++ now («data» .entry))) ⌝ }
+// Stores bytes hidden from a place on, and answers the place behind them.
+fn put_hidden(bytes: &[u8], out: &mut [u8], at: usize) -> usize
+    requires { ⌜ at + length (hide dle (now bytes)) ≤ length (now out) ⌝ }
+    ensures next { λ r. ⌜ r ≡ at + length (hide dle (now (bytes .entry))) ⌝ }
+    ensures put { λ r. ⌜ now (out .exit) ≡ sets (now (out .entry)) at (hide dle (now (bytes .entry))) ⌝ }
 {
-    put_mark(out, 0, 0x10, 0x02);
-    escape::dle_hide_into(header, out, 2);
-    escape::dle_hide_into(data, out, place);
-    put_mark(out, end, 0x10, 0x03);
+    let answer = escape::dle_hide_into(bytes, out, at);
+    match answer {
+        Answer::Done(n) => at + n,
+        Answer::Refused(_) => at, // never: they fit
+    }
 }
 
-// Writes a frame that may be sent, if the memory holds it: nothing is stored before its whole length is known.
+// Stores a frame at the start, and answers its length.
+fn put_frame(header: &[u8], data: &[u8], out: &mut [u8]) -> usize
+    requires { ⌜ length (enclose (now header ++ now «data»)) ≤ length (now out) ⌝ }
+    ensures long { λ r. ⌜ r ≡ length (enclose (now (header .entry) ++ now («data» .entry))) ⌝ }
+    ensures put { λ r. ⌜ now (out .exit) ≡ sets (now (out .entry)) 0 (enclose (now (header .entry) ++ now («data» .entry))) ⌝ }
+{
+    put_mark(out, 0, 0x10, 0x02);
+    let place = put_hidden(header, out, 2);
+    let end = put_hidden(data, out, place);
+    put_mark(out, end, 0x10, 0x03);
+    end + 2
+}
+
+// Whether a frame fits a memory. Where two wire bytes for each byte fit, they need not be counted.
+fn has_room(header: &[u8], data: &[u8], memory: usize) -> bool
+    requires { ⌜ length (now header) + length (now «data») ≤ size ⌝ }
+    ensures { λ r. ⌜ r ≡ leb (length (enclose (now (header .entry) ++ now («data» .entry)))) memory ⌝ }
+{
+    if 2 * (header.len() + data.len()) + 4 <= memory {
+        true
+    } else {
+        let total = 4 + escape::dle_hidden_length(header) + escape::dle_hidden_length(data);
+        total <= memory
+    }
+}
+
+// Writes a frame that may be sent, if the memory holds it: nothing is stored before that is known.
 fn send(header: &[u8], data: &[u8], out: &mut [u8]) -> Answer
     requires { ⌜ length (now header) + length (now «data») ≤ size ⌝ }
     ensures { λ r. ⌜ (outcomeOf r, now (out .exit)) ≡ storedAt (enclose (now (header .entry) ++ now («data» .entry))) (now (out .entry)) 0 ⌝ }
 {
-    let place = 2 + escape::dle_hidden_length(header);
-    let end = place + escape::dle_hidden_length(data);
-    let total = end + 2;
-    if total <= out.len() {
-        put_frame(header, data, out, place, end);
-        Answer::Done(total)
+    if has_room(header, data, out.len()) {
+        let n = put_frame(header, data, out);
+        Answer::Done(n)
     } else {
         Answer::Refused(refusal::OUTPUT_SHORT)
     }

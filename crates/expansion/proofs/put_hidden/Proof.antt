@@ -3,7 +3,7 @@ use Prim.Native.Nat.{ℕ, _+_}
 use mathlib.Core.Path.{ap}
 use Rattle.escape.specs.Code.{hide}
 use Rattle.escape.specs.Expansion.{expansion}
-use Rattle.expansion.proofs.Stored.{put-done, put-never}
+use Rattle.framing.proofs.Stored.{put-done, put-never}
 use borrow.Author.Needs.{needs}
 use Rattle.expansion.proofs.put_hidden.Statement.{statement}
 use Rattle.expansion.proofs.put_hidden.Tie as tie
