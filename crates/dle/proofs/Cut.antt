@@ -3,7 +3,7 @@ use Prim.Native.Nat.{ℕ, _-_, _^_, _≤_, _<_}
 use mathlib.Core.Path.{_≡_, refl, ap, sym, _∙_}
 use mathlib.Core.Bool.{Bool, true, false, cond, _&&_}
 use mathlib.Core.List.{List, [], _∷_, _++_, append-assoc, append-nil}
-use mathlib.Core.Option.{Option, none, some}
+use mathlib.Core.Option.{Option, some}
 use native.Mathlib.Omega.{arith}
 use lib.ListN.{length, getD, drop, length-append, length-drop}
 use lib.Dec.{leb}
@@ -16,7 +16,7 @@ use Rattle.runs.specs.Runs.{each}
 use Rattle.escape.specs.Dle.{dle}
 use Rattle.escape.proofs.Lawful.{hide-more, hide-short}
 use Rattle.escape.proofs.Dle.{dle-lawful}
-use Rattle.dle.specs.Frame.{Message, ok, payload, enclose, frame}
+use Rattle.dle.specs.Frame.{Message, ok, payload, enclose}
 use Rattle.dle.specs.Rules.{Phase, hunting, half, inside, size, gathered, held, judge, gather, act, cut}
 use Rattle.dle.specs.Contract.{link}
 use Rattle.dle.proofs.Payload.{error-payload, content-payload, length-ok, message-back}

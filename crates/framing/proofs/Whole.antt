@@ -1,7 +1,7 @@
 -- A run is read as a message exactly if it is the frame of one that may be sent, over any lawful link.
 use Prim.Native.Nat.{ℕ, _^_, _≤_, _<_}
 use mathlib.Core.Path.{_≡_, refl, ap, sym, _∙_, subst}
-use mathlib.Core.Bool.{Bool, true, false, cond}
+use mathlib.Core.Bool.{Bool, true, false}
 use mathlib.Core.List.{List, [], _∷_, append-nil}
 use mathlib.Core.Option.{Option, none, some}
 use native.Mathlib.Omega.{arith}
@@ -11,9 +11,9 @@ use lib.Dec.{ltb, eqb}
 use borrow.Author.Tests.{ltb-true, eqb-true, lt-ltb, eq-eqb}
 use Rattle.runs.specs.Runs.{Bytes}
 use Rattle.runs.proofs.Cases.{and-both}
-use Rattle.framing.specs.Answer.{Outcome, done, refused}
+use Rattle.framing.specs.Answer.{done}
 use Rattle.framing.specs.Receiver.{Fed, feed, last}
-use Rattle.framing.specs.Segment.{Segment, noise, refused as refusedFrame, accepted, Event, message, refusal, Config, step, wires, heard, noiseOf}
+use Rattle.framing.specs.Segment.{Segment, noise, refused, accepted, Event, message, refusal, Config, step, wires, heard, noiseOf}
 use Rattle.framing.specs.Link.{Link, told, heardIn}
 use Rattle.framing.specs.Claims.{segments, openAt}
 use Rattle.framing.specs.Whole.{settle, exactly, readOn, OnlyFrames, FramesRead}
@@ -35,7 +35,7 @@ module _ {M : Type 0} (frame : M → List ℕ) where
   silent (noise bs ∷ ss) h n =
       let e : bs ≡ [] = none-left bs (omega arith) in
       rw e (silent ss h (omega arith))
-  silent (refusedFrame k bs ∷ ss) h n = differ (cc)
+  silent (refused k bs ∷ ss) h n = differ (cc)
   silent (accepted m ∷ ss) h n = differ (cc)
 
   -- one message was heard and nothing is noise: the bytes are its frame
@@ -45,7 +45,7 @@ module _ {M : Type 0} (frame : M → List ℕ) where
   alone P (noise bs ∷ ss) m h n a =
       let e : bs ≡ [] = none-left bs (omega arith) in
       rw e (alone P ss m h (omega arith) (a .1))
-  alone P (refusedFrame k bs ∷ ss) m h n a = differ (cc)
+  alone P (refused k bs ∷ ss) m h n a = differ (cc)
   alone P (accepted k ∷ ss) m h n a =
       let e : k ≡ m = cc in
       let s : heard ss ≡ [] = cc in
@@ -54,7 +54,7 @@ module _ {M : Type 0} (frame : M → List ℕ) where
   noise-within : (ss : List (Segment M)) → noiseOf ss ≤ length (wires frame ss)
   noise-within [] = omega arith
   noise-within (noise bs ∷ ss) = let h = noise-within ss in simp length-append (omega arith)
-  noise-within (refusedFrame n bs ∷ ss) = let h = noise-within ss in simp length-append (omega arith)
+  noise-within (refused n bs ∷ ss) = let h = noise-within ss in simp length-append (omega arith)
   noise-within (accepted m ∷ ss) = let h = noise-within ss in simp length-append (omega arith)
 
 module _ (L : Link) (laws : Lawful L) where
