@@ -1,99 +1,114 @@
--- What a byte does by the rules: no byte is lost, no more is gathered than the store holds, and an accepted message may be sent and has the
--- gathered bytes as its payload.
-use Prim.Native.Nat.{ℕ, _-_, _≤_}
+-- What a byte does by the rules.
+use Prim.Native.Nat.{ℕ, _-_, _^_, _≤_, _<_}
 use mathlib.Core.Path.{_≡_, refl, ap, sym, _∙_}
 use mathlib.Core.Bool.{Bool, true, false, cond, _&&_}
 use mathlib.Core.List.{List, [], _∷_, _++_, append-assoc, append-nil}
-use mathlib.Core.Option.{Option, none, some}
+use mathlib.Core.Option.{Option, some}
 use native.Mathlib.Omega.{arith}
 use lib.ListN.{length, getD, drop, length-append, length-drop}
 use lib.Dec.{leb}
 use borrow.Author.Tests.{ne-eqb}
 use Rattle.runs.proofs.Cases.{by-eqb, by-ltb}
-use Rattle.framing.specs.Segment.{Segment, wireOf}
-use Rattle.framing.proofs.Segments.{accepts-wire, wireOpt, Accepts}
+use Rattle.framing.specs.Segment.{Segment, refused, accepted, noiseAfter}
+use Rattle.framing.proofs.Byte.{Reached, Takes, goes-on, restarts, closes, Ends, by-end, ends-quiet}
 use Rattle.escape.specs.Code.{Meaning, byte, meaning, hide}
 use Rattle.runs.specs.Runs.{each}
 use Rattle.escape.specs.Dle.{dle}
-use Rattle.escape.proofs.Lawful.{hide-more}
+use Rattle.escape.proofs.Lawful.{hide-more, hide-short}
 use Rattle.escape.proofs.Dle.{dle-lawful}
-use Rattle.dle.specs.Frame.{Message, ok, payload, enclose, frame}
+use Rattle.dle.specs.Frame.{Message, ok, payload, enclose}
 use Rattle.dle.specs.Rules.{Phase, hunting, half, inside, size, gathered, held, judge, gather, act, cut}
-use Rattle.dle.proofs.Payload.{error-payload, content-payload, length-ok}
+use Rattle.dle.specs.Contract.{link}
+use Rattle.dle.proofs.Payload.{error-payload, content-payload, length-ok, message-back}
 
 -- no more is gathered than the store holds
-abbrev pub Good : Phase → Type 0
-Good p = length (gathered p) ≤ size
+abbrev pub reached : Reached link
+reached =
+    record {
+      Good = λ p. length (gathered p) ≤ size;
+      fits = λ p h. h;
+      few = held-short;
+      good-first = omega arith;
+      held-first = refl;
+      gathered-first = refl;
+    }
+  where
+    held-short : (p : Phase) → length (gathered p) ≤ size → length (held p) < 2 ^ 32
+    held-short hunting h = omega arith
+    held-short half h = omega arith
+    held-short (inside true g) h = simp length-append (omega (arith, hide-short dle dle-lawful g))
+    held-short (inside false g) h = simp length-append (omega (arith, hide-short dle dle-lawful g))
 
--- an accepted message, g being what was gathered: nothing is gathered after it
-pub record Taken (g : List ℕ) (p : Phase) (m : Message) : Type 0 where
-  pub may : ok m ≡ true
-  pub whole : payload m ≡ g
-  pub cleared : gathered p ≡ []
+-- a byte that leads to r, which leaves at the start of the store what is then gathered
+abbrev Next : List ℕ → List ℕ → Phase × Option (Segment Message) → Type 0
+Next g wire r = Takes reached g wire (gathered (r .0)) r
 
--- what a byte leads to, g being what was gathered and wire what was held with the byte
-pub record Fair (g wire : List ℕ) (r : Phase × Option (Segment Message)) : Type 0 where
-  pub holds : wireOpt frame (r .1) ++ held (r .0) ≡ wire
-  pub good : Good (r .0)
-  pub taken : Accepts (Taken g (r .0)) (r .1)
-  pub framed : Accepts (λ m. frame m ≡ wire) (r .1)
+-- the end of a frame: an accepted message has the gathered bytes as its payload
+abbrev Judged : List ℕ → Message → Type 0
+Judged g m = (payload m ≡ g) × (length g ≤ size → ok m ≡ true)
 
-goes-on : (g wire : List ℕ) (p : Phase) → held p ≡ wire → Good p → Fair g wire (p, none)
-goes-on g wire p e h = record { holds = e; good = h; taken = tt; framed = tt }
-
-closes : (g wire : List ℕ) (s : Segment Message) → (wireOf frame s ≡ wire) × Accepts (Taken g hunting) (some s) → Fair g wire (hunting, some s)
-closes g wire s h = record { holds = append-nil (wireOf frame s) ∙ h .0; good = omega arith; taken = h .1; framed = accepts-wire frame s wire (h .0) }
-
-judge-fair : (g wire : List ℕ) → length g ≤ size → enclose g ≡ wire → Fair g wire (hunting, some (judge g wire))
-judge-fair g wire h e =
-    closes g wire (judge g wire)
-    (by-ltb P (length g) 4 (λ _. (refl, tt)) (λ l.
+judge-ends : (g wire : List ℕ) → Ends (Judged g) wire (judge g wire)
+judge-ends g wire =
+    by-ltb P (length g) 4 (λ _. refl) (λ l.
     by-eqb P (getD g 2 0) 0
-    (λ z. by-eqb P (length g) 4
-    (λ k. (ap enclose (error-payload g k z) ∙ e, record { may = refl; whole = error-payload g k z; cleared = refl }))
-    (λ _. (refl, tt)))
-    (λ z. by-eqb P (getD g 2 0) (length g - 3)
-    (λ k. (ap enclose (content-payload g l k) ∙ e, record { may = may l; whole = content-payload g l k; cleared = refl }))
-    (λ _. (refl, tt)))))
+    (λ z. by-eqb P (length g) 4 (λ k. (error-payload g k z, λ _. refl)) (λ _. refl))
+    (λ z. by-eqb P (getD g 2 0) (length g - 3) (λ k. (content-payload g l k, may l)) (λ _. refl)))
   where
     P : Segment Message → Type 0
-    P s = (wireOf frame s ≡ wire) × Accepts (Taken g hunting) (some s)
+    P = Ends (Judged g) wire
 
-    may : 4 ≤ length g → leb 1 (length (drop 3 g)) && leb (length (drop 3 g)) 255 ≡ true
-    may l = length-ok (length (drop 3 g)) (simp length-drop (omega arith)) (simp length-drop (omega arith))
+    may : 4 ≤ length g → length g ≤ size → leb 1 (length (drop 3 g)) && leb (length (drop 3 g)) 255 ≡ true
+    may l h = length-ok (length (drop 3 g)) (simp length-drop (omega arith)) (simp length-drop (omega arith))
+
+pub judge-noise : (g wire : List ℕ) (n : ℕ) → noiseAfter (some (judge g wire)) n ≡ n
+judge-noise g wire n = ends-quiet (Judged g) wire (judge g wire) (judge-ends g wire) n
+
+judge-takes : (g wire : List ℕ) → length g ≤ size → enclose g ≡ wire → Next g wire (hunting, some (judge g wire))
+judge-takes g wire h e =
+    by-end (λ (s : Segment Message). Next g wire (hunting, some s)) (Judged g) wire (judge g wire) (judge-ends g wire)
+    (λ n. closes reached g wire [] (refused n wire) refl (omega arith) tt)
+    (λ m t. closes reached g wire [] (accepted m) (ap enclose (t .0) ∙ e) (omega arith)
+    (record {
+      may = t .1 h;
+      read = λ store front room. message-back m store (t .1 h) (rw (t .0) front) (rw (t .0) (omega arith));
+      hunts = refl;
+    }))
 
 -- a wire byte that completes a byte
-gather-fair : (waiting : Bool) (g : List ℕ) (w b : ℕ) → meaning dle waiting w ≡ byte b
-    → Fair g (held (inside waiting g) ++ (w ∷ [])) (gather g b (held (inside waiting g) ++ (w ∷ [])))
-gather-fair waiting g w b e =
-    by-ltb (Fair g (held (inside waiting g) ++ (w ∷ []))) (length g) size
-    (λ l. goes-on g _ (inside false (g ++ (b ∷ []))) (ap (λ (x : List ℕ). 0x10 ∷ 0x02 ∷ x) more) (simp length-append (omega arith)))
-    (λ _. closes g _ _ (refl, tt))
+gather-takes : (waiting : Bool) (g : List ℕ) (w b : ℕ) → meaning dle waiting w ≡ byte b
+    → Next g (held (inside waiting g) ++ (w ∷ [])) (gather g b (held (inside waiting g) ++ (w ∷ [])))
+gather-takes waiting g w b e =
+    by-ltb (Next g (held (inside waiting g) ++ (w ∷ []))) (length g) size
+    (λ l. goes-on reached g _ (inside false (g ++ (b ∷ []))) (ap (λ (x : List ℕ). 0x10 ∷ 0x02 ∷ x) more) (simp length-append (omega arith)))
+    (λ _. closes reached g _ [] _ refl (omega arith) tt)
   where
     more : hide dle (g ++ (b ∷ [])) ++ [] ≡ (hide dle g ++ cond waiting (0x10 ∷ []) []) ++ (w ∷ [])
     more = append-nil (hide dle (g ++ (b ∷ []))) ∙ sym (hide-more dle dle-lawful 0x10 refl waiting g w b e)
 
-pub fair : (p : Phase) (b : ℕ) → Good p → Fair (gathered p) (held p ++ (b ∷ [])) (cut p b)
+pub takes : (p : Phase) (b : ℕ) → length (gathered p) ≤ size → Next (gathered p) (held p ++ (b ∷ [])) (cut p b)
 unfolding each
-fair hunting b h = by-eqb (Fair [] (b ∷ [])) b 0x10 (λ e. goes-on _ _ half (rw e) (omega arith)) (λ _. closes _ _ _ (refl, tt))
-fair half b h = by-eqb (Fair [] (0x10 ∷ b ∷ [])) b 0x02 (λ e. goes-on _ _ (inside false []) (rw e) (omega arith)) (λ _. closes _ _ _ (refl, tt))
-fair (inside false g) b h =
-    by-eqb (λ m. Fair g wire (act g wire m)) b 0x10
-    (λ e. goes-on g wire (inside true g) (rw e (ap (λ (x : List ℕ). 0x10 ∷ 0x02 ∷ x ++ (0x10 ∷ [])) (sym (append-nil (hide dle g))))) h)
-    (λ n. gather-fair false g b b (rw (ne-eqb b 0x10 n)))
+takes hunting b h =
+    by-eqb (Next [] (b ∷ [])) b 0x10 (λ e. goes-on reached [] _ half (rw e) (omega arith)) (λ _. closes reached [] _ [] _ refl (omega arith) tt)
+takes half b h =
+    by-eqb (Next [] (0x10 ∷ b ∷ [])) b 0x02 (λ e. goes-on reached [] _ (inside false []) (rw e) (omega arith))
+    (λ _. closes reached [] _ [] _ refl (omega arith) tt)
+takes (inside false g) b h =
+    by-eqb (λ m. Next g wire (act g wire m)) b 0x10
+    (λ e. goes-on reached g wire (inside true g) (rw e (ap (λ (x : List ℕ). 0x10 ∷ 0x02 ∷ x ++ (0x10 ∷ [])) (sym (append-nil (hide dle g))))) h)
+    (λ n. gather-takes false g b b (rw (ne-eqb b 0x10 n)))
   where
     wire : List ℕ
     wire = held (inside false g) ++ (b ∷ [])
-fair (inside true g) b h =
-    by-eqb P b 0x02 (λ e. record { holds = restart e; good = omega arith; taken = tt; framed = tt })
-    (λ _. by-eqb P b 0x03 (λ e. judge-fair g wire h (rw (e, snoc (0x03 ∷ []))))
-    (λ _. by-eqb P b 0x10 (λ e. gather-fair true g b 0x10 (rw e)) (λ _. closes _ _ _ (refl, tt))))
+takes (inside true g) b h =
+    by-eqb P b 0x02 (λ e. restarts reached g wire (inside false []) 4 _ (restart e) (omega arith))
+    (λ _. by-eqb P b 0x03 (λ e. judge-takes g wire h (rw (e, snoc (0x03 ∷ []))))
+    (λ _. by-eqb P b 0x10 (λ e. gather-takes true g b 0x10 (rw e)) (λ _. closes reached g wire [] _ refl (omega arith) tt)))
   where
     wire : List ℕ
     wire = held (inside true g) ++ (b ∷ [])
 
     P : Meaning → Type 0
-    P m = Fair g wire (act g wire m)
+    P m = Next g wire (act g wire m)
 
     snoc : (x : List ℕ) → (hide dle g ++ (0x10 ∷ [])) ++ x ≡ hide dle g ++ 0x10 ∷ x
     snoc x = append-assoc (hide dle g) (0x10 ∷ []) x

@@ -1,6 +1,5 @@
 -- The count of gathered bytes stays within the link's size, for every state that does not give 12, whatever its store holds.
 use Prim.Native.Nat.{ℕ, _≤_}
-use mathlib.Core.Path.{sym, subst}
 use mathlib.Core.List.{List, [], _∷_, _++_}
 use mathlib.Core.Option.{Option}
 use native.Mathlib.Omega.{arith}
@@ -8,11 +7,12 @@ use lib.ListN.{length, length-append, length-take}
 use Rattle.runs.proofs.Cases.{by-eqb, by-ltb}
 use Rattle.framing.specs.Segment.{Segment}
 use Rattle.framing.specs.declared.State.{State}
+use Rattle.framing.proofs.States.{count-within}
 use Rattle.escape.specs.Code.{Meaning, byte, waits, start, end, wrong, meaning}
 use Rattle.escape.specs.Expansion.{expansion}
 use Rattle.expansion.specs.Frame.{Message}
 use Rattle.expansion.specs.Rules.{Phase, hunting, inside, size, gathered, held, act, cut}
-use Rattle.expansion.specs.Contract.{phaseOf}
+use Rattle.expansion.specs.Contract.{modeOf, phaseOf}
 use Rattle.expansion.specs.Steps.{Answers}
 use Rattle.expansion.specs.declared.Stepped.{Stepped}
 
@@ -30,11 +30,10 @@ cut-sized : (p : Phase) (b : ℕ) → length (gathered p) ≤ size → Sized (cu
 cut-sized hunting b h = by-eqb Sized b 0xFD (λ _. omega arith) (λ _. omega arith)
 cut-sized (inside w g) b h = act-sized g (held (inside w g)) (held (inside w g) ++ (b ∷ [])) (meaning expansion w b) h
 
-phase-sized : (s : State) (store : List ℕ) → s .count ≤ size → length (gathered (phaseOf s store)) ≤ size
-phase-sized s store h =
-    by-eqb (λ (p : Phase). length (gathered p) ≤ size) (s .mode) 0 (λ _. omega arith) (λ _. simp length-take (omega arith))
+counted : (s : State) (store : List ℕ) → length (gathered (phaseOf s store)) ≤ s .count
+counted s store =
+    by-eqb (λ (p : Phase). length (gathered p) ≤ s .count) (s .mode) 0 (λ _. omega arith) (λ _. simp length-take (omega arith))
 
 pub count-next : (s : State) (store : List ℕ) (b : ℕ) (r : Stepped) (after : List ℕ) → Answers s store (cut (phaseOf s store) b) r after → s .count ≤ size
     → r .state .count ≤ size
-count-next s store b r after a h =
-    subst (λ (x : State). x .count ≤ size) (sym (a .state)) (cut-sized (phaseOf s store) b (phase-sized s store h))
+count-next s store b r after a h = count-within modeOf gathered held phaseOf cut size counted cut-sized s (r .state) store b h (a .state)

@@ -1,5 +1,5 @@
 -- The end of a frame: what is accepted is the body and the CRC of a message that may be sent, and each such message is accepted.
-use Prim.Native.Nat.{ℕ, zero, suc, _+_, _-_, _/_, _≤_}
+use Prim.Native.Nat.{ℕ, zero, suc, _+_, _-_, _≤_}
 use mathlib.Core.Path.{_≡_, refl, ap, sym, _∙_}
 use mathlib.Core.Bool.{true, _&&_}
 use mathlib.Core.List.{List, [], _∷_, _++_}
@@ -12,7 +12,7 @@ use Rattle.runs.specs.Runs.{Bytes}
 use Rattle.runs.specs.Number.{number, bytesOf}
 use Rattle.runs.proofs.Bytes.{bytes-append, bytes-drop}
 use Rattle.runs.proofs.Cases.{and-both}
-use Rattle.runs.proofs.Number.{number-bytesOf, bytesOf-number, length-bytesOf}
+use Rattle.runs.proofs.Number.{number-bytesOf, bytesOf-number, length-bytesOf, bytes-bytesOf}
 use Rattle.framing.specs.Segment.{accepted}
 use Rattle.checksum.specs.Crc.{crc32Of}
 use Rattle.checksum.proofs.CheckValue.{crc32-lt}
@@ -37,12 +37,6 @@ module _ (m : Message) (h : ok m ≡ true) where
   pub content-fits : length (content m) ≤ size
   content-fits = omega (arith, content-length m, leb-true (length (m .payload)) 1024 (repeat-ok .1))
 
-bytes-bytesOf : (size n : ℕ) → Bytes (bytesOf size n)
-unfolding bytesOf
-bytes-bytesOf zero n i = omega arith
-bytes-bytesOf (suc size) n zero = omega arith
-bytes-bytesOf (suc size) n (suc i) = bytes-bytesOf size (n / 256) i
-
 four : (g : List ℕ) → 4 ≤ length g → take 4 g ≡ getD g 0 0 ∷ getD g 1 0 ∷ getD g 2 0 ∷ getD g 3 0 ∷ []
 four [] h = absurd (omega arith)
 four (a ∷ []) h = absurd (omega arith)
@@ -55,7 +49,7 @@ module _ (g : List ℕ) (l : 8 ≤ length g) where
   pub payload-length : length (messageIn g .payload) ≡ length g - 8
   payload-length = length-take-le (length g - 8) (drop 4 g) (simp length-drop (omega arith))
 
-  pub body-in : body (messageIn g) ≡ take (length g - 4) g
+  body-in : body (messageIn g) ≡ take (length g - 4) g
   body-in =
       let n : 4 + (length g - 8) ≡ length g - 4 = omega arith in
       ap (λ (x : List ℕ). x ++ take (length g - 8) (drop 4 g)) (sym (four g (omega arith)))

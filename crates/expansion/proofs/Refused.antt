@@ -1,18 +1,18 @@
 -- A call that ends in refusal 8 leaves the gathered bytes in the store.
-use Prim.Native.Nat.{ℕ, suc, _+_, _-_, _≤_}
+use Prim.Native.Nat.{ℕ, _-_, _≤_}
 use mathlib.Core.Path.{_≡_, refl, ap, sym, _∙_}
 use mathlib.Core.List.{List, [], _∷_, _++_}
-use mathlib.Core.Option.{Option, none, some, Option·none-ne-some}
+use mathlib.Core.Option.{Option, some, Option·none-ne-some}
 use native.Mathlib.Omega.{arith}
 use lib.Dec.{leb}
-use lib.ListN.{length, take, drop, take-append-drop}
+use lib.ListN.{length, getD, take, drop, take-append-drop}
 use lib.Seq.{take-append-seam}
 use Rattle.runs.specs.Runs.{over}
 use Rattle.runs.proofs.Cases.{by-test, by-eqb, by-ltb}
-use Rattle.framing.specs.Receiver.{Fed, feed, last, stop}
+use Rattle.framing.specs.Receiver.{Fed, feed, last}
 use Rattle.framing.specs.Segment.{Segment, Event, refusal, eventOf}
 use Rattle.framing.specs.Link.{Lent, stepOn}
-use Rattle.framing.proofs.Feed.{used-some}
+use Rattle.framing.proofs.Feed.{last-byte}
 use Rattle.framing.specs.declared.State.{State}
 use Rattle.escape.specs.Code.{Meaning, byte, waits, start, end, wrong, meaning}
 use Rattle.escape.specs.Expansion.{expansion}
@@ -48,13 +48,11 @@ front-gathered s store =
     by-eqb (λ (p : Phase). take (length (gathered p)) store ≡ gathered p) (s .mode) 0 (λ _. refl)
     (λ _. ap (take (length (take (s .count) store))) (sym (take-append-drop (s .count) store)) ∙ take-append-seam (take (s .count) store) (drop (s .count) store))
 
-step-eight : (c : Lent link) (b : ℕ) → stepOn link c b .1 ≡ some (refusal 8) → Stands (gathered (phaseOf (c .0) (c .1))) (stepOn link c b .0 .1)
-step-eight c b e =
-    let h = cut-eight (phaseOf (c .0) (c .1)) b e in
-    record {
-      long = h .0;
-      here = ap (λ (x : List ℕ). take (length (gathered (phaseOf (c .0) (c .1)))) (over x (c .1))) (h .1) ∙ front-gathered (c .0) (c .1);
-    }
+step-eight : (c : Lent link) (b : ℕ) (d : Lent link) → stepOn link c b ≡ (d, some (refusal 8)) → Stands (gathered (phaseOf (c .0) (c .1))) (d .1)
+step-eight c b d e =
+    let h = cut-eight (phaseOf (c .0) (c .1)) b (ap (λ (x : Lent link × Option (Event Message)). x .1) e) in
+    let same : d .1 ≡ c .1 = ap (λ (x : Lent link × Option (Event Message)). x .0 .1) (sym e) ∙ ap (λ (x : List ℕ). over x (c .1)) (h .1) in
+    record { long = h .0; here = rw same (front-gathered (c .0) (c .1)) }
 
 -- what is to be shown of what a call on a piece gives
 abbrev Kept : Lent link → List ℕ → Fed (Event Message) (Lent link) → Type 0
@@ -63,19 +61,9 @@ Kept c piece f =
     f .event ≡ some (refusal 8) → Stands (gathered (phaseOf (d .0) (d .1))) (f .after .1)
 
 feed-eight : (c : Lent link) (piece : List ℕ) → Kept c piece (feed (stepOn link) c piece)
-feed-eight c [] = λ e. absurd (Option·none-ne-some _ e)
-feed-eight c (b ∷ bs) = go (stepOn link c b .1) (step-eight c b) (feed-eight (stepOn link c b .0) bs)
-  where
-    d : Lent link
-    d = stepOn link c b .0
-
-    go : (o : Option (Event Message)) → (o ≡ some (refusal 8) → Stands (gathered (phaseOf (c .0) (c .1))) (d .1)) → Kept d bs (feed (stepOn link) d bs)
-        → Kept c (b ∷ bs) (stop d o (feed (stepOn link) d bs))
-    go none h k e =
-        let u = used-some (stepOn link) d bs (refusal 8) e in
-        let n : 1 + feed (stepOn link) d bs .used - 1 ≡ suc (feed (stepOn link) d bs .used - 1) = omega arith in
-        rw n (k e)
-    go (some v) h k e = h e
+feed-eight c piece e =
+    let f = feed (stepOn link) c piece in
+    step-eight (last (stepOn link) c (take (f .used - 1) piece)) (getD piece (f .used - 1) 0) (f .after) (last-byte (stepOn link) c piece (refusal 8) e)
 
 pub refused-header : RefusedHeader
 refused-header c piece =

@@ -1,6 +1,6 @@
 -- The store after a byte, and what the rules read in it at the end of a frame.
 use Prim.Native.Nat.{ℕ, _+_, _-_, _≤_}
-use mathlib.Core.Path.{_≡_, refl, ap, sym, _∙_}
+use mathlib.Core.Path.{_≡_, ap, sym, _∙_}
 use mathlib.Core.Bool.{true, false, _&&_}
 use mathlib.Core.List.{List}
 use mathlib.Core.Option.{some}
@@ -10,8 +10,7 @@ use lib.ListN.{length, getD, take, drop}
 use lib.Seq.{length-take-le, take-take, getD-take, take-add, drop-at}
 use borrow.Author.Tests.{le-ltb}
 use Rattle.runs.specs.Number.{number}
-use Rattle.runs.proofs.Cases.{by-test, by-ltb}
-use Rattle.framing.specs.Segment.{Segment, refused, accepted, eventOf, noiseAfter}
+use Rattle.framing.specs.Segment.{Segment, refused, accepted, eventOf}
 use Rattle.framing.specs.Link.{Told, told, numbers}
 use Rattle.checksum.specs.Crc.{crc32Of}
 use Rattle.expansion.specs.Frame.{Message, kindOk}
@@ -67,11 +66,3 @@ module _ (store : List ℕ) (k : ℕ) (high : k ≤ length store) where
         judge-accepts f =
             let e : judge (take k store) wire ≡ accepted (messageIn (take k store)) = rw (le-ltb (length (take k store)) 8 (omega (arith, long)), c, f) in
             ap toldSegment e ∙ ap numbers numbers-here
-
--- the end of a frame is no noise
-pub judge-noise : (g wire : List ℕ) (n : ℕ) → noiseAfter (some (judge g wire)) n ≡ n
-judge-noise g wire n =
-    by-ltb P (length g) 8 (λ _. refl) (λ _. by-test P (checkRight g) (λ _. by-test P (fieldsOk g) (λ _. refl) (λ _. refl)) (λ _. refl))
-  where
-    P : Segment Message → Type 0
-    P s = noiseAfter (some s) n ≡ n

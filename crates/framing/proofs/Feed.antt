@@ -1,12 +1,12 @@
 -- Laws of `feed`, `events` and `last`, over any machine.
-use Prim.Native.Nat.{ℕ, suc, _+_, _≤_}
+use Prim.Native.Nat.{ℕ, suc, _+_, _-_, _≤_}
 use mathlib.Core.Path.{_≡_, refl, ap, sym, _∙_}
 use mathlib.Core.List.{List, [], _∷_, _++_, cons≢nil}
 use mathlib.Core.Option.{Option, none, some, Option·none-ne-some, Option·some-ne-none}
 use native.Mathlib.Nat.{zero-add, add-assoc}
 use native.Mathlib.Numerals.{one-add}
 use native.Mathlib.Omega.{arith}
-use lib.ListN.{length, drop, length-append}
+use lib.ListN.{length, getD, take, drop, length-append}
 use lib.Seq.{drop-length, append-snoc}
 use Rattle.framing.specs.Receiver.{Fed, later, emit, stop, feed, events, last}
 
@@ -124,3 +124,22 @@ module _ {C E : Type 0} (step : C → ℕ → C × Option E) where
 
   pub last-none : (c : C) (bs : List ℕ) → feed step c bs .event ≡ none → last step c bs ≡ feed step c bs .after
   last-none c bs h = last-feed c bs ∙ rw (used-all c bs h, drop-length)
+
+  -- the last of the bytes that a call used is the one that makes its event
+  abbrev Ends : C → List ℕ → ℕ → C → E → Type 0
+  Ends c bs used d v = step (last step c (take (used - 1) bs)) (getD bs (used - 1) 0) ≡ (d, some v)
+
+  pub last-byte : (c : C) (bs : List ℕ) (v : E) → feed step c bs .event ≡ some v → Ends c bs (feed step c bs .used) (feed step c bs .after) v
+  last-byte c [] v h = absurd (Option·none-ne-some v h)
+  last-byte c (b ∷ bs) v h = go (step c b .1) refl (last-byte (step c b .0) bs v) h
+    where
+      rest : Fed E C
+      rest = feed step (step c b .0) bs
+
+      go : (o : Option E) → step c b .1 ≡ o → (rest .event ≡ some v → Ends (step c b .0) bs (rest .used) (rest .after) v) → stop (step c b .0) o rest .event ≡ some v
+          → Ends c (b ∷ bs) (stop (step c b .0) o rest .used) (stop (step c b .0) o rest .after) v
+      go none e k h =
+          let u = used-some (step c b .0) bs v h in
+          let one : 1 + rest .used - 1 ≡ suc (rest .used - 1) = omega arith in
+          rw one (k h)
+      go (some w) e k h = λ i. (step c b .0, (e ∙ h) i)

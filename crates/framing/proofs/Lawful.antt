@@ -1,5 +1,5 @@
 -- What a link has to show of each byte, once; all claims on its streams and its calls follow.
-use Prim.Native.Nat.{ℕ, suc, _≤_, _<_}
+use Prim.Native.Nat.{ℕ, suc, _^_, _≤_, _<_}
 use mathlib.Core.Path.{_≡_, refl, ap, sym, _∙_, subst}
 use mathlib.Core.Bool.{true}
 use mathlib.Core.List.{List, [], _∷_, _++_, append-assoc}
@@ -16,47 +16,34 @@ use Rattle.framing.specs.Answer.{Outcome, done}
 use Rattle.framing.specs.Receiver.{Fed, stop, feed, events, last, drive, join}
 use Rattle.framing.specs.Segment.{Segment, noise, refused, accepted, Event, message, refusal, Config, step, eventOf, noiseAfter, wires}
 use Rattle.framing.specs.Writer.{writes}
-use Rattle.framing.specs.Link.{Link, Lent, stepOn, told, heardIn, called}
+use Rattle.framing.specs.Link.{Link, Lent, stepOn, callOn, told, heardIn, called}
 use Rattle.framing.specs.Claims.{segments, openAt, WritesFrame, ReadsBack, Canonical, CutAnywhere, Accounted, Demand3}
 use Rattle.framing.proofs.Stored.{stored-done}
 use Rattle.framing.proofs.Cutting.{Follows, cutting, feed-follows}
-use Rattle.framing.proofs.Segments.{wireOpt, Accepts, AllAccept, accept-at, wires-append, partition, all-accepted, phase-last, heard-events, noise-last}
+use Rattle.framing.proofs.Segments.{wireOpt, Accepts, accepts-map, AllAccept, accept-at, wires-append, partition, all-accepted, phase-last, heard-events, noise-last}
 use Rattle.framing.proofs.Calls.{demand}
+use Rattle.framing.proofs.Byte.{Reached, Taken, Takes}
 
 abbrev pub at : {P : Type 0} → P → ℕ → Config P
 at p n = record { phase = p; noise = n }
 
--- in these fields p is a phase, b a byte and n a noise count; Good is what holds of each phase that is reached
+-- in these fields p is a phase, b a byte and n a noise count
 pub record Lawful (L : Link) : Type 1 where
-  pub Good : L .Phase → Type 0
+  pub reached : Reached L
+  pub takes : (p : L .Phase) (b : ℕ) → b < 256 → reached .Good p → Takes reached (L .gathered p) (L .held p ++ (b ∷ [])) (L .front p b) (L .cut p b)
   -- the state of a phase and a noise count, known, with its counts; with what is gathered in the store it stands for the phase
   pub stateOf : L .Phase → ℕ → L .State
   pub noise-of : (p : L .Phase) (n : ℕ) → L .noise (stateOf p n) ≡ n
   pub open-of : (p : L .Phase) (n : ℕ) → L .«open» (stateOf p n) ≡ length (L .held p)
-  pub known-of : (p : L .Phase) (n : ℕ) → Good p → L .known (stateOf p n) ≡ true
-  pub phase-of : (p : L .Phase) (n : ℕ) (store : List ℕ) → Good p → take (length (L .gathered p)) store ≡ L .gathered p → L .phaseOf (stateOf p n) store ≡ p
-  -- at first nothing is held or gathered
-  pub good-first : Good (L .hunting)
-  pub held-first : L .held (L .hunting) ≡ []
-  pub gathered-first : L .gathered (L .hunting) ≡ []
+  pub known-of : (p : L .Phase) (n : ℕ) → reached .Good p → L .known (stateOf p n) ≡ true
+  pub phase-of : (p : L .Phase) (n : ℕ) (store : List ℕ) → reached .Good p → take (length (L .gathered p)) store ≡ L .gathered p
+      → L .phaseOf (stateOf p n) store ≡ p
   pub fresh-first : L .fresh ≡ stateOf (L .hunting) 0
-  -- a byte: nothing is lost, the next phase is good; an accepted message may be sent, and its frame is what was held
-  pub conserves : (p : L .Phase) (b : ℕ) → b < 256 → Good p → wireOpt (L .frame) (L .cut p b .1) ++ L .held (L .cut p b .0) ≡ L .held p ++ (b ∷ [])
-  pub good-next : (p : L .Phase) (b : ℕ) → b < 256 → Good p → Good (L .cut p b .0)
-  pub accepts-ok : (p : L .Phase) (b : ℕ) → b < 256 → Good p → Accepts (λ m. L .ok m ≡ true) (L .cut p b .1)
-  pub accepts-frame : (p : L .Phase) (b : ℕ) → b < 256 → Good p → Accepts (λ m. L .frame m ≡ L .held p ++ (b ∷ [])) (L .cut p b .1)
-  -- the state after it is that of the next phase, also out of a state in plain hunting whatever it holds
-  pub state-next : (p : L .Phase) (n b : ℕ) → b < 256 → Good p
-      → L .stateAfter (stateOf p n) (L .cut p b .0) (L .cut p b .1) ≡ stateOf (L .cut p b .0) (noiseAfter (L .cut p b .1) n)
-  pub state-leaves : (s : L .State) (store : List ℕ) (b : ℕ) → b < 256 → L .known s ≡ true → L .phaseOf s store ≡ L .hunting
-      → L .stateAfter s (L .cut (L .hunting) b .0) (L .cut (L .hunting) b .1)
-      ≡ stateOf (L .cut (L .hunting) b .0) (noiseAfter (L .cut (L .hunting) b .1) (L .noise s))
-  -- what is written fits the store and is what is gathered; an accepted message is read back from its numbers and the store
-  pub front-fits : (p : L .Phase) (b : ℕ) → b < 256 → Good p → length (L .front p b) ≤ L .size
-  pub front-is : (p : L .Phase) (b : ℕ) (store : List ℕ) → b < 256 → Good p
-      → take (length (L .gathered (L .cut p b .0))) (over (L .front p b) store) ≡ L .gathered (L .cut p b .0)
-  pub message-is : (p : L .Phase) (b : ℕ) (store : List ℕ) → b < 256 → Good p → take (length (L .gathered p)) store ≡ L .gathered p → L .size ≤ length store
-      → Accepts (λ m. L .messageOf (over (L .front p b) store) (L .numbersOf m) ≡ m) (L .cut p b .1)
+  -- the state after a byte, from phase p to q, is that of q, also out of a state in plain hunting whatever it holds
+  pub state-next : (p q : L .Phase) (o : Option (Segment (L .Message))) (n b : ℕ) → wireOpt (L .frame) o ++ L .held q ≡ L .held p ++ (b ∷ [])
+      → length (L .held q) < 2 ^ 32 → L .stateAfter (stateOf p n) q o ≡ stateOf q (noiseAfter o n)
+  pub state-leaves : (s : L .State) (store : List ℕ) (q : L .Phase) (o : Option (Segment (L .Message))) → L .phaseOf s store ≡ L .hunting
+      → L .stateAfter s q o ≡ stateOf q (noiseAfter o (L .noise s))
   -- a frame is of bytes and not empty; a hunting receiver reads it back, whatever follows
   pub frame-bytes : (m : L .Message) → L .Typed m → L .ok m ≡ true → Bytes (L .frame m)
   pub frame-filled : (m : L .Message) → 0 < length (L .frame m)
@@ -77,14 +64,26 @@ writes-frame L m memory o h =
     written-frame L m memory o h ∙ ap (λ (l : List ℕ). (done (length (L .frame m)), l)) (sets-over (L .frame m) memory h)
 
 module _ (L : Link) (laws : Lawful L) where
+  abbrev Good : L .Phase → Type 0
+  Good = laws .reached .Good
+
+  good-next : (p : L .Phase) (b : ℕ) → b < 256 → Good p → Good (L .cut p b .0)
+  good-next p b y g = laws .takes p b y g .good
+
+  -- a property of an accepted message
+  accepted-is : (Q : L .Message → Type 0) (p : L .Phase) (b : ℕ) (y : b < 256) (g : Good p)
+      → ((m : L .Message) → Taken L (L .gathered p) (L .front p b) (L .cut p b .0) m → Q m) → Accepts Q (L .cut p b .1)
+  accepted-is Q p b y g f = accepts-map (Taken L (L .gathered p) (L .front p b) (L .cut p b .0)) Q (L .cut p b .1) f (laws .takes p b y g .accepts)
+
   pub accounted : Accounted L
   accounted bs y =
-      partition (L .frame) (L .held) (L .cut) (laws .Good) (laws .good-next) (laws .conserves) (L .hunting) bs y (laws .good-first)
-      ∙ ap (λ (w : List ℕ). w ++ bs) (laws .held-first)
+      partition (L .frame) (L .held) (L .cut) Good good-next (λ p b y g. laws .takes p b y g .holds) (L .hunting) bs y (laws .reached .good-first)
+      ∙ ap (λ (w : List ℕ). w ++ bs) (laws .reached .held-first)
 
   pub all-sendable : (bs : List ℕ) → Bytes bs → AllAccept (λ m. L .ok m ≡ true) (segments L bs)
   all-sendable bs y =
-      all-accepted (L .frame) (L .held) (L .cut) (laws .Good) (laws .good-next) (λ m. L .ok m ≡ true) (laws .accepts-ok) (L .hunting) bs y (laws .good-first)
+      all-accepted (L .frame) (L .held) (L .cut) Good good-next (λ m. L .ok m ≡ true) (λ p b y g. accepted-is (λ m. L .ok m ≡ true) p b y g (λ m t. t .may))
+      (L .hunting) bs y (laws .reached .good-first)
 
   pub canonical : Canonical L
   canonical bs y before after m e = (
@@ -120,10 +119,10 @@ module _ (L : Link) (laws : Lawful L) where
           → L .stateAfter (c .0) (L .cut (a .phase) b .0) (L .cut (a .phase) b .1) ≡ laws .stateOf (L .cut (a .phase) b .0) (noiseAfter (L .cut (a .phase) b .1) (a .noise))
       store : take (length (L .gathered (a .phase))) (c .1) ≡ L .gathered (a .phase)
       room : L .size ≤ length (c .1)
-      good : laws .Good (a .phase)
+      good : Good (a .phase)
       besides : X (c .0) a
 
-    stands-of : (p : L .Phase) (n : ℕ) (s : L .State) (store : List ℕ) → s ≡ laws .stateOf p n → laws .Good p
+    stands-of : (p : L .Phase) (n : ℕ) (s : L .State) (store : List ℕ) → s ≡ laws .stateOf p n → Good p
         → take (length (L .gathered p)) store ≡ L .gathered p → L .size ≤ length store → Stands (s, store) (at p n)
     stands-of p n s store e g h r =
         subst (λ (x : L .State). Stands (x, store) (at p n)) (sym e)
@@ -131,7 +130,7 @@ module _ (L : Link) (laws : Lawful L) where
           phase = laws .phase-of p n store g h;
           known = laws .known-of p n g;
           noise = laws .noise-of p n;
-          next = λ b y. laws .state-next p n b y g;
+          next = λ b y. let t = laws .takes p b y g in laws .state-next p (L .cut p b .0) (L .cut p b .1) n b (t .holds) (laws .reached .few (L .cut p b .0) (t .good));
           store = h;
           room = r;
           good = g;
@@ -145,11 +144,11 @@ module _ (L : Link) (laws : Lawful L) where
         subst
         (λ (p : L .Phase). (heardIn L (over (L .front p b) (c .1)) (told L (eventOf (L .cut p b .1))) ≡ step (L .cut) a b .1)
         × Stands (L .stateAfter (c .0) (L .cut p b .0) (L .cut p b .1), over (L .front p b) (c .1)) (step (L .cut) a b .0)) (sym (r .phase)) (
-          view-event (c .0, over (L .front (a .phase) b) (c .1)) (L .cut (a .phase) b .1) (laws .message-is (a .phase) b (c .1) y (r .good) (r .store) (r .room)),
+          view-event (c .0, over (L .front (a .phase) b) (c .1)) (L .cut (a .phase) b .1) (accepted-is _ (a .phase) b y (r .good) (λ m t. t .read (c .1) (r .store) (r .room))),
           stands-of (L .cut (a .phase) b .0) (noiseAfter (L .cut (a .phase) b .1) (a .noise))
               (L .stateAfter (c .0) (L .cut (a .phase) b .0) (L .cut (a .phase) b .1)) (over (L .front (a .phase) b) (c .1)) (r .next b y)
-              (laws .good-next (a .phase) b y (r .good)) (laws .front-is (a .phase) b (c .1) y (r .good))
-              (rw (over-length (L .front (a .phase) b) (c .1) (omega (arith, laws .front-fits (a .phase) b y (r .good), r .room))) (r .room)),
+              (good-next (a .phase) b y (r .good)) (laws .takes (a .phase) b y (r .good) .stands (c .1))
+              (rw (over-length (L .front (a .phase) b) (c .1) (omega (arith, laws .takes (a .phase) b y (r .good) .fits, r .room))) (r .room)),
         )
 
     -- one call
@@ -157,18 +156,20 @@ module _ (L : Link) (laws : Lawful L) where
     follows c a bs y r =
         rw (r .known, le-leb (L .size) (length (c .1)) (r .room)) (feed-follows (stepOn L) view (step (L .cut)) Stands (λ _. refl) view-some alike c a bs y r)
 
-  -- the last byte of an accepted frame leaves nothing open
-  nothing-left : (w v h : List ℕ) → w ++ h ≡ v → w ≡ v → h ≡ []
-  nothing-left w v [] e f = refl
-  nothing-left w v (b ∷ h) e f = absurd (omega (arith, simp length-append at (ap length e), ap length f))
+    -- the same of the events themselves, as they are before they are told
+    follows-untold : (c : Lent L) (a : Config (L .Phase)) (bs : List ℕ) → Bytes bs → Stands c a → Follows Stands (callOn L c bs) (feed (step (L .cut)) a bs)
+    follows-untold c a bs y r =
+        rw (r .known, le-leb (L .size) (length (c .1)) (r .room))
+        (feed-follows (stepOn L) (λ _ o. o) (step (L .cut)) Stands (λ _. refl) (λ _ e. (e, refl))
+        (λ c a b y r. (ap (λ (p : L .Phase). eventOf (L .cut p b .1)) (r .phase), alike c a b y r .1)) c a bs y r)
 
-  -- so a call that gives a message leaves nothing open
-  closes : (p : L .Phase) (n : ℕ) (bs : List ℕ) (m : L .Message) → Bytes bs → laws .Good p → feed (step (L .cut)) (at p n) bs .event ≡ some (message m)
-      → L .held (feed (step (L .cut)) (at p n) bs .after .phase) ≡ []
+  -- a call that gives a message leaves nothing open
+  closes : (p : L .Phase) (n : ℕ) (bs : List ℕ) (m : L .Message) → Bytes bs → Good p → feed (step (L .cut)) (at p n) bs .event ≡ some (message m)
+      → feed (step (L .cut)) (at p n) bs .after .phase ≡ L .hunting
   closes p n [] m y g e = absurd (Option·none-ne-some (message m) e)
   closes p n (b ∷ bs) m y g e =
-      go (L .cut p b .1) (laws .accepts-frame p b (y 0) g) (laws .conserves p b (y 0) g)
-      (closes (L .cut p b .0) (noiseAfter (L .cut p b .1) n) bs m (λ i. y (suc i)) (laws .good-next p b (y 0) g)) e
+      go (L .cut p b .1) (accepted-is (λ m. L .cut p b .0 ≡ L .hunting) p b (y 0) g (λ m t. t .hunts))
+      (closes (L .cut p b .0) (noiseAfter (L .cut p b .1) n) bs m (λ i. y (suc i)) (good-next p b (y 0) g)) e
     where
       next : Config (L .Phase)
       next = at (L .cut p b .0) (noiseAfter (L .cut p b .1) n)
@@ -176,32 +177,36 @@ module _ (L : Link) (laws : Lawful L) where
       rest : Fed (Event (L .Message)) (Config (L .Phase))
       rest = feed (step (L .cut)) next bs
 
-      go : (o : Option (Segment (L .Message))) → Accepts (λ m. L .frame m ≡ L .held p ++ (b ∷ [])) o
-          → wireOpt (L .frame) o ++ L .held (L .cut p b .0) ≡ L .held p ++ (b ∷ []) → (rest .event ≡ some (message m) → L .held (rest .after .phase) ≡ [])
-          → stop next (eventOf o) rest .event ≡ some (message m) → L .held (stop next (eventOf o) rest .after .phase) ≡ []
-      go none a c ih e = ih e
-      go (some (noise bs)) a c ih e = ih e
-      go (some (refused k bs)) a c ih e = absurd (let z : _≡_ {A = ℕ} 0 1 = cc in omega arith)
-      go (some (accepted k)) a c ih e = nothing-left (L .frame k) (L .held p ++ (b ∷ [])) (L .held (L .cut p b .0)) c a
+      go : (o : Option (Segment (L .Message))) → Accepts (λ m. L .cut p b .0 ≡ L .hunting) o
+          → (rest .event ≡ some (message m) → rest .after .phase ≡ L .hunting)
+          → stop next (eventOf o) rest .event ≡ some (message m) → stop next (eventOf o) rest .after .phase ≡ L .hunting
+      go none a ih e = ih e
+      go (some (noise bs)) a ih e = ih e
+      go (some (refused k bs)) a ih e = absurd (let z : _≡_ {A = ℕ} 0 1 = cc in omega arith)
+      go (some (accepted k)) a ih e = a
 
   pub last-closed : (bs : List ℕ) (m : L .Message) → Bytes bs → feed (step (L .cut)) (at (L .hunting) 0) bs .event ≡ some (message m)
       → L .held (feed (step (L .cut)) (at (L .hunting) 0) bs .after .phase) ≡ []
-  last-closed bs m y e = closes (L .hunting) 0 bs m y (laws .good-first) e
+  last-closed bs m y e = ap (L .held) (closes (L .hunting) 0 bs m y (laws .reached .good-first) e) ∙ laws .reached .held-first
 
-  -- a call with a fresh state is a call by the rules
-  pub fresh-follows : (store bs : List ℕ) → Bytes bs → L .size ≤ length store
-      → (called L (L .fresh, store) bs .event ≡ feed (step (L .cut)) (at (L .hunting) 0) bs .event)
-      × (called L (L .fresh, store) bs .used ≡ feed (step (L .cut)) (at (L .hunting) 0) bs .used)
-      × (L .noise (called L (L .fresh, store) bs .after .0) ≡ feed (step (L .cut)) (at (L .hunting) 0) bs .after .noise)
-  fresh-follows store bs y room = (f .event, f .used, f .after .noise)
-    where
-      Any : L .State → Config (L .Phase) → Type 0
-      Any s a = Unit
+  -- nothing is told besides
+  abbrev Any : L .State → Config (L .Phase) → Type 0
+  Any s a = Unit
 
-      f : Follows (Stands Any (λ _ _. tt)) (called L (L .fresh, store) bs) (feed (step (L .cut)) (at (L .hunting) 0) bs)
-      f =
-          follows Any (λ _ _. tt) (L .fresh, store) (at (L .hunting) 0) bs y
-          (stands-of Any (λ _ _. tt) (L .hunting) 0 (L .fresh) store (laws .fresh-first) (laws .good-first) (rw (laws .gathered-first)) room)
+  -- a call with a fresh state is a call by the rules, also as its caller has it
+  module _ (store bs : List ℕ) (y : Bytes bs) (room : L .size ≤ length store) where
+    stands-fresh : Stands Any (λ _ _. tt) (L .fresh, store) (at (L .hunting) 0)
+    stands-fresh = stands-of Any (λ _ _. tt) (L .hunting) 0 (L .fresh) store (laws .fresh-first) (laws .reached .good-first) (rw (laws .reached .gathered-first)) room
+
+    pub fresh-follows : (callOn L (L .fresh, store) bs .event ≡ feed (step (L .cut)) (at (L .hunting) 0) bs .event)
+        × (callOn L (L .fresh, store) bs .used ≡ feed (step (L .cut)) (at (L .hunting) 0) bs .used)
+        × (L .noise (callOn L (L .fresh, store) bs .after .0) ≡ feed (step (L .cut)) (at (L .hunting) 0) bs .after .noise)
+    fresh-follows =
+        let f = follows-untold Any (λ _ _. tt) (L .fresh, store) (at (L .hunting) 0) bs y stands-fresh in
+        (f .event, f .used, f .after .noise)
+
+    pub fresh-called : called L (L .fresh, store) bs .event ≡ feed (step (L .cut)) (at (L .hunting) 0) bs .event
+    fresh-called = follows Any (λ _ _. tt) (L .fresh, store) (at (L .hunting) 0) bs y stands-fresh .event
 
   pub cut-anywhere : CutAnywhere L
   cut-anywhere pieces store y room =
@@ -218,7 +223,7 @@ module _ (L : Link) (laws : Lawful L) where
           × Stands Counts (laws .open-of) (drive (called L) (L .fresh, store) pieces .1) (last (step (L .cut)) (at (L .hunting) 0) (join pieces))
       r =
           cutting (called L) (step (L .cut)) (Stands Counts (laws .open-of)) (follows Counts (laws .open-of)) (L .fresh, store) (at (L .hunting) 0) pieces y
-          (stands-of Counts (laws .open-of) (L .hunting) 0 (L .fresh) store (laws .fresh-first) (laws .good-first) (rw (laws .gathered-first)) room)
+          (stands-of Counts (laws .open-of) (L .hunting) 0 (L .fresh) store (laws .fresh-first) (laws .reached .good-first) (rw (laws .reached .gathered-first)) room)
 
   pub reads-back : ReadsBack L
   reads-back m memory rest s store t o h y k p room =
@@ -229,9 +234,6 @@ module _ (L : Link) (laws : Lawful L) where
         quiet = ap (λ (f : Heard). L .noise (f .after .0)) same ∙ f .after .noise ∙ ap (λ (f : Fed (Event (L .Message)) (Config (L .Phase))). f .after .noise) e;
       }
     where
-      Any : L .State → Config (L .Phase) → Type 0
-      Any s a = Unit
-
       Heard : Type 0
       Heard = Fed (Event (L .Message)) (Lent L)
 
@@ -246,10 +248,10 @@ module _ (L : Link) (laws : Lawful L) where
             phase = p;
             known = k;
             noise = refl;
-            next = λ b y. laws .state-leaves s store b y k p;
-            store = rw (laws .gathered-first);
+            next = λ b y. laws .state-leaves s store (L .cut (L .hunting) b .0) (L .cut (L .hunting) b .1) p;
+            store = rw (laws .reached .gathered-first);
             room = room;
-            good = laws .good-first;
+            good = laws .reached .good-first;
             besides = tt;
           }
 

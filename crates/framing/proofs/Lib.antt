@@ -1,10 +1,11 @@
 -- `Stored`: runs stored into lent memory. `Feed`, `Cutting`: any machine, fed and driven. `Segments`: the rules' segments. `Calls`: demand 3
--- from self-delimiting frames. `Lawful`: what a link has to show of each byte, and all claims from it. `States`, `Loop`: for a link's code.
+-- from self-delimiting frames. `Byte`: what a link has to show of each byte. `Lawful`: what else, and all claims from it. `States`, `Loop`: for a link's code.
 pub mod Stored
 pub mod Feed
 pub mod Cutting
 pub mod Segments
 pub mod Calls
+pub mod Byte
 pub mod Lawful
 pub mod Whole
 pub mod States

@@ -27,12 +27,6 @@ accepts-map P Q (some (noise bs)) f h = tt
 accepts-map P Q (some (refused n bs)) f h = tt
 accepts-map P Q (some (accepted m)) f h = f m h
 
--- a segment that has certain wire bytes: an accepted one has them as its frame
-pub accepts-wire : {M : Type 0} (frame : M → List ℕ) (s : Segment M) (w : List ℕ) → wireOf frame s ≡ w → Accepts (λ m. frame m ≡ w) (some s)
-accepts-wire frame (noise bs) w e = tt
-accepts-wire frame (refused n bs) w e = tt
-accepts-wire frame (accepted m) w e = e
-
 -- the same of all segments
 abbrev pub AllAccept : {M : Type 0} → (M → Type 0) → List (Segment M) → Type 0
 AllAccept P [] = Unit

@@ -46,3 +46,11 @@ pub known-count : (modes hunting size : ℕ) (s : State) → knownState modes hu
 known-count modes hunting size s h =
     by-ltb (λ (t : Bool). t ≡ true → s .count ≤ size) (s .mode) hunting
     (λ _ e. let z = eqb-true (s .count) 0 e in omega arith) (λ _ e. leb-true (s .count) size e) (and-both (ltb (s .mode) modes) _ h .1)
+
+-- the count stays within the size, where no byte makes a phase gather more, and a state's phase has gathered no more than its count
+module _ {P M : Type 0} (modeOf : P → ℕ) (gathered held : P → List ℕ) (phaseOf : State → List ℕ → P) (cut : P → ℕ → P × Option (Segment M)) (size : ℕ)
+    (within : (s : State) (store : List ℕ) → length (gathered (phaseOf s store)) ≤ s .count)
+    (next : (p : P) (b : ℕ) → length (gathered p) ≤ size → length (gathered (cut p b .0)) ≤ size) where
+  pub count-within : (s after : State) (store : List ℕ) (b : ℕ) → s .count ≤ size
+      → after ≡ stateAfter modeOf gathered held s (cut (phaseOf s store) b .0) (cut (phaseOf s store) b .1) → after .count ≤ size
+  count-within s after store b h e = rw e (next (phaseOf s store) b (omega (arith, within s store)))

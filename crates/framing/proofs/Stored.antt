@@ -20,24 +20,21 @@ module _ (run memory : List ℕ) (at : ℕ) where
   stored-refused h = rw (lt-leb (at + length run) (length memory) h)
 
   -- what such a call leaves, and what a caller that stores the run itself answers
-  pub stored-is : (after : List ℕ) (o : Outcome ℕ) → (o, after) ≡ storedAt run memory at → at + length run ≤ length memory → after ≡ sets memory at run
+  stored-is : (after : List ℕ) (o : Outcome ℕ) → (o, after) ≡ storedAt run memory at → at + length run ≤ length memory → after ≡ sets memory at run
   stored-is after o e h = ap (λ (w : Outcome ℕ × List ℕ). w .1) (e ∙ stored-done h)
 
   pub stored-so : (after : List ℕ) (n : ℕ) → n ≡ length run → at + n ≤ length memory → after ≡ sets memory at run → (done n, after) ≡ storedAt run memory at
   stored-so after n e h a = (λ i. (done (e i), a i)) ∙ sym (stored-done (omega arith))
 
--- what a caller learns of the answer, where the run fits
-module _ (run memory after : List ℕ) (at : ℕ) (r : Answer) (fits : at + length run ≤ length memory) (e : (outcomeOf r, after) ≡ storedAt run memory at) where
-  answers : _≡_ {A = Outcome ℕ × List ℕ} (outcomeOf r, after) (done (length run), sets memory at run)
-  answers = e ∙ stored-done run memory at fits
+  -- a caller that goes by the case of the answer, where the run fits
+  module _ (after : List ℕ) (r : Answer) (fits : at + length run ≤ length memory) (e : (outcomeOf r, after) ≡ storedAt run memory at) where
+    pub put-done : (n : ℕ) → r ≡ Done n → (n ≡ length run) × (after ≡ sets memory at run)
+    put-done n h =
+        let o : outcomeOf r ≡ done (length run) = ap (λ (x : Outcome ℕ × List ℕ). x .0) (e ∙ stored-done fits) in
+        (cc, stored-is after (outcomeOf r) e fits)
 
-  pub put-done : (n : ℕ) → r ≡ Done n → (n ≡ length run) × (after ≡ sets memory at run)
-  put-done n h =
-      let o : outcomeOf r ≡ done (length run) = ap (λ (x : Outcome ℕ × List ℕ). x .0) answers in
-      (cc, ap (λ (x : Outcome ℕ × List ℕ). x .1) answers)
-
-  pub put-never : (n : ℕ) → r ≡ Refused n → ⊥
-  put-never n h =
-      let o : outcomeOf r ≡ done (length run) = ap (λ (x : Outcome ℕ × List ℕ). x .0) answers in
-      let z : _≡_ {A = ℕ} 0 1 = cc in
-      omega arith
+    pub put-never : (n : ℕ) → r ≡ Refused n → ⊥
+    put-never n h =
+        let o : outcomeOf r ≡ done (length run) = ap (λ (x : Outcome ℕ × List ℕ). x .0) (e ∙ stored-done fits) in
+        let z : _≡_ {A = ℕ} 0 1 = cc in
+        omega arith

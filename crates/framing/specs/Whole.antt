@@ -1,5 +1,5 @@
 -- A host's call on one whole frame: one call of a fresh receiver on the whole run.
-use Prim.Native.Nat.{ℕ, _^_, _≤_, _<_}
+use Prim.Native.Nat.{ℕ, _^_, _≤_}
 use mathlib.Core.Bool.{Bool, true, cond, _&&_}
 use mathlib.Core.Path.{_≡_}
 use mathlib.Core.List.{List}
@@ -26,14 +26,21 @@ module _ (L : Link) where
       let a = answer L (L .fresh, store) run in
       (settle (exactly (length run) (a .1) (L .noise (a .2 .0))) (a .0), a .2 .1)
 
-  -- only a frame is read as a message, which may be sent
+  -- m may be sent, the run is its frame, the numbers are its own, and with the store after the call they give it back
+  pub record Means (m : L .Message) (run store : List ℕ) (v : L .Numbers) : Type 0 where
+    pub sendable : L .ok m ≡ true
+    pub framed : run ≡ L .frame m
+    pub told : v ≡ L .numbersOf m
+    pub kept : L .messageOf (readOn run store .1) v ≡ m
+
+  -- only a frame is read as a message
   abbrev pub OnlyFrames : Type 0
   OnlyFrames =
       (run store : List ℕ) (v : L .Numbers) → Bytes run → L .size ≤ length store → readOn run store .0 ≡ done v
-      → (L .ok (L .messageOf (readOn run store .1) v) ≡ true) × (run ≡ L .frame (L .messageOf (readOn run store .1) v))
+      → (m : L .Message) × Means m run store v
 
   -- and each frame is read as its message
   abbrev pub FramesRead : Type 0
   FramesRead =
-      (m : L .Message) (store : List ℕ) → L .Typed m → L .ok m ≡ true → length (L .frame m) < 2 ^ 32 → L .size ≤ length store
-      → (v : L .Numbers) × (readOn (L .frame m) store .0 ≡ done v) × (L .messageOf (readOn (L .frame m) store .1) v ≡ m)
+      (m : L .Message) (store : List ℕ) → L .Typed m → L .ok m ≡ true → L .size ≤ length store
+      → (readOn (L .frame m) store .0 ≡ done (L .numbersOf m)) × Means m (L .frame m) store (L .numbersOf m)

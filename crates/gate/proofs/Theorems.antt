@@ -1,23 +1,28 @@
 -- The claims of specs/Claims.antt.
-use Prim.Native.Nat.{ℕ, _+_, _%_, _^_, _≤_}
-use mathlib.Core.Path.{_≡_, refl, _∙_}
+use Prim.Native.Nat.{ℕ, _+_, _%_, _^_, _≤_, _<_}
+use mathlib.Core.Path.{_≡_, refl, ap, sym, _∙_}
 use mathlib.Core.Bool.{Bool, true, false, cond, _&&_}
-use mathlib.Core.List.{[], _∷_}
-use mathlib.Core.Option.{some, Option·none-ne-some}
+use mathlib.Core.List.{List, [], _∷_}
+use mathlib.Core.Option.{Option, none, some, Option·none-ne-some}
 use native.Mathlib.Omega.{arith}
-use lib.Dec.{eqb, leb}
-use lib.ListN.{length, getD}
+use lib.Dec.{eqb, leb, lit<}
+use lib.ListN.{length, getD, length-take}
+use lib.Seq.{getD-take}
 use borrow.Author.Tests.{leb-true, le-leb, ne-eqb}
 use Rattle.runs.proofs.Cases.{by-test, by-eqb}
 use Rattle.framing.specs.Receiver.{emit}
-use Rattle.framing.specs.Link.{nothing, numbers, number}
+use Rattle.framing.specs.Segment.{Event, message, refusal}
+use Rattle.framing.specs.Link.{nothing, numbers, number, told, answer}
 use Rattle.framing.specs.Claims.{AllOf}
+use Rattle.expansion.specs.Frame as Frame
+use Rattle.expansion.specs.Contract.{link}
+use Rattle.expansion.specs.Claims.{gatheredBefore}
+use Rattle.expansion.proofs.Theorems.{refused-header}
 use Rattle.gate.specs.Asking.{start, freshExchange, known, since, sends, ended}
 use Rattle.gate.specs.Asking as Asking
 use Rattle.gate.specs.Answering.{Answered}
-use Rattle.gate.specs.Claims.{after, requests, starts, beforeLast, RepeatAtMost3, FourSends, IdsGoRound, OtherIdChangesNothing, WaitOverIff, Sendable, ReplySendable, CheckErrorAsGathered}
+use Rattle.gate.specs.Claims.{after, requests, starts, RepeatAtMost3, FourSends, IdsGoRound, OtherIdChangesNothing, WaitOverIff, Sendable, ReplySendable, CheckErrorAsGathered}
 use Rattle.gate.proofs.Steps.{next, by-step, left-le, sends-left, ids}
-use Rattle.gate.proofs.Reported.{front, reported}
 use Rattle.gate.proofs.Sendable.{sendable}
 
 pub repeat-at-most-3 : RepeatAtMost3
@@ -61,9 +66,17 @@ reply-sendable head a (number n) store m h =
     by-test (λ (r : Answered). r .reply ≡ some m → Sendable m) (eqb n 8 && leb 4 (length store))
     (λ _. sendable head 2 (getD store 0 0) (getD store 3 0) m refl) (λ _ h. absurd (Option·none-ne-some m h)) h
 
+told-8 : (o : Option (Event Frame.Message)) → told link o ≡ number 8 → o ≡ some (refusal 8)
+told-8 none h = let z : _≡_ {A = ℕ} 0 1 = cc in absurd (omega arith)
+told-8 (some (message m)) h = let z : _≡_ {A = ℕ} 0 1 = cc in absurd (omega arith)
+told-8 (some (refusal n)) h = let e : n ≡ 8 = cc in cc
+
 pub check-error-as-gathered : CheckErrorAsGathered
 check-error-as-gathered head a c piece h =
-    let r = reported c piece h in
-    let f = front (beforeLast c piece .0) (beforeLast c piece .1) (r .long) in
-    let room : 4 ≤ length (beforeLast c piece .1) = omega arith in
-    (r .long, rw (h, r .same, le-leb 4 (length (beforeLast c piece .1)) room, f .1 0 (omega arith), f .1 3 (omega arith)))
+    let r = refused-header c piece (told-8 _ h) in
+    let g = gatheredBefore c piece in
+    let store = answer link c piece .2 .1 in
+    let room : 4 ≤ length store = omega (arith, r .long, sym (length-take (length g) store) ∙ ap length (r .here)) in
+    let here : (i : ℕ) → i < 8 → getD store i 0 ≡ getD g i 0 =
+    λ i l. sym (getD-take (length g) store i 0 (omega (arith, r .long))) ∙ ap (λ (x : List ℕ). getD x i 0) (r .here) in
+    (r .long, rw (h, le-leb 4 (length store) room, here 0 (lit< tt), here 3 (lit< tt)))

@@ -1,19 +1,19 @@
 -- What is claimed of the exchange, from its rules. proofs/Theorems.antt proves it.
-use Prim.Native.Nat.{ℕ, _+_, _-_, _%_, _^_, _≤_, _<_}
+use Prim.Native.Nat.{ℕ, _+_, _%_, _^_, _≤_, _<_}
 use mathlib.Core.Path.{_≡_}
 use mathlib.Core.Logic.{_↔_}
 use mathlib.Core.Bool.{Bool, true, false, cond}
 use mathlib.Core.List.{List, [], _∷_}
 use mathlib.Core.Option.{Option, none, some, Option·map}
-use lib.ListN.{length, take, getD}
+use lib.ListN.{length, getD}
 use Rattle.framing.specs.Answer.{refused}
-use Rattle.framing.specs.Receiver.{emit, last}
-use Rattle.framing.specs.Link.{Lent, Told, number, writeOn, stepOn, answer}
+use Rattle.framing.specs.Receiver.{emit}
+use Rattle.framing.specs.Link.{Lent, Told, number, writeOn, answer}
 use Rattle.framing.specs.Claims.{AllOf}
 use Rattle.expansion.specs.Frame.{ok, frame}
 use Rattle.expansion.specs.Frame as Frame
-use Rattle.expansion.specs.Rules.{gathered}
-use Rattle.expansion.specs.Contract.{link, phaseOf}
+use Rattle.expansion.specs.Contract.{link}
+use Rattle.expansion.specs.Claims.{gatheredBefore}
 use Rattle.expansion.specs.declared.Message.{Message}
 use Rattle.gate.specs.Asking.{Exchange, Step, start, tick, arrival, Asked, send, done, gaveUp, nothing, freshExchange, known, waitOver, asks}
 use Rattle.gate.specs.Asking as Asking
@@ -81,18 +81,11 @@ abbrev pub ReplySendable : Type 0
 ReplySendable =
     (head : Bool) (a : Answering) (t : Told Message) (store : List ℕ) (m : Frame.Message) → answers head a t store .reply ≡ some m → Sendable m
 
--- the state and the store of a call of the receiver before the last byte that it used, and the bytes gathered by then
-abbrev pub beforeLast : Lent link → List ℕ → Lent link
-beforeLast c piece = last (stepOn link) c (take (answer link c piece .1 - 1) piece)
-
-abbrev pub gatheredBy : Lent link → List ℕ → List ℕ
-gatheredBy c piece = gathered (phaseOf (beforeLast c piece .0) (beforeLast c piece .1))
-
 -- where the receiver tells 8, what is made of its answer and of the store after the call is a check error with the id and, from the head, the
 -- address of the gathered bytes of the refused frame, which are at least eight
 abbrev pub CheckErrorAsGathered : Type 0
 CheckErrorAsGathered =
     (head : Bool) (a : Answering) (c : Lent link) (piece : List ℕ) → answer link c piece .0 ≡ number 8
-    → (8 ≤ length (gatheredBy c piece))
+    → (8 ≤ length (gatheredBefore c piece))
     × (answers head a (answer link c piece .0) (answer link c piece .2 .1)
-    ≡ record { reply = some (reply head 2 (getD (gatheredBy c piece) 0 0) (getD (gatheredBy c piece) 3 0)); handsOut = false; after = a })
+    ≡ record { reply = some (reply head 2 (getD (gatheredBefore c piece) 0 0) (getD (gatheredBefore c piece) 3 0)); handsOut = false; after = a })

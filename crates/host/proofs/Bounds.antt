@@ -1,12 +1,12 @@
 -- The frames of each link are short.
-use Prim.Native.Nat.{ℕ, _+_, _*_, _≤_}
-use mathlib.Core.List.{List}
+use Prim.Native.Nat.{_^_, _<_}
+use mathlib.Core.Path.{_≡_}
+use mathlib.Core.Bool.{true}
 use native.Mathlib.Omega.{arith}
-use native.Mathlib.Nat.{le-trans}
-use lib.Dec.{lit≤, leb}
+use lib.Dec.{leb}
 use lib.ListN.{length, length-append}
-use borrow.Author.Tests.{leb-true}
 use Rattle.runs.proofs.Cases.{and-both}
+use Rattle.framing.specs.Link.{Link}
 use Rattle.escape.proofs.Lawful.{hide-short}
 use Rattle.escape.specs.Dle.{dle}
 use Rattle.escape.proofs.Dle.{dle-lawful}
@@ -14,9 +14,11 @@ use Rattle.pcs.specs.Contract as Pcs
 use Rattle.pcs.proofs.Allowed.{sendable}
 use Rattle.pcs.proofs.Written as pcs-written
 use Rattle.mdu.specs.Contract as Mdu
-use Rattle.mdu.specs.Frame as MduFrame
+use Rattle.mdu.specs.Frame.{lengthOk}
+use Rattle.mdu.proofs.Known.{length-most}
 use Rattle.dle.specs.Contract as Dle
-use Rattle.dle.specs.Frame.{content, error, payload, enclose}
+use Rattle.dle.specs.Frame.{payload}
+use Rattle.dle.proofs.Payload.{payload-short}
 use Rattle.expansion.specs.Contract as Expansion
 use Rattle.expansion.proofs.Theorems as expansion
 use Rattle.host.specs.Claims.{FrameBound}
@@ -28,18 +30,15 @@ pcs-bound m h =
 
 pub mdu-bound : FrameBound Mdu.link
 mdu-bound m h =
-    let a = and-both (leb 1 (m .address)) (MduFrame.lengthOk (length (m .body))) h in
-    let b = leb-true (length (m .body)) 1025 (and-both (leb 1 (length (m .body))) (leb (length (m .body)) 1025) (a .1) .1) in
+    let k = length-most (length (m .body)) (and-both (leb 1 (m .address)) (lengthOk (length (m .body))) h .1) in
     simp length-append (omega arith)
 
-enclose-short : (g : List ℕ) → length (enclose g) ≤ 4 + 2 * length g
-enclose-short g = let h = hide-short dle dle-lawful g in simp length-append (omega arith)
-
 pub dle-bound : FrameBound Dle.link
-dle-bound (content s n d) h =
-    let short = leb-true (length d) 255 (and-both (leb 1 (length d)) (leb (length d) 255) h .1) in
-    le-trans (enclose-short (payload (content s n d))) (omega arith)
-dle-bound (error s n e) h = le-trans (enclose-short (payload (error s n e))) (lit≤ tt)
+dle-bound m h = simp length-append (omega (arith, payload-short m h, hide-short dle dle-lawful (payload m)))
 
 pub expansion-bound : FrameBound Expansion.link
 expansion-bound = expansion.frame-bound
+
+-- so no length goes round
+pub short : (L : Link) → FrameBound L → (m : L .Message) → L .ok m ≡ true → length (L .frame m) < 2 ^ 32
+short L bound m h = omega (arith, bound m h)

@@ -1,10 +1,9 @@
 -- For the code: `Read` has a read's answer, `Bounds` and `Signed` a writer's. Of the definitions: `Packed` has the parts of a message's number,
--- `Whole` what a run is read as, `Refusals` the numbers of refusals, `Parts` what the accessors tell; `Theorems` has the claims, link by link.
+-- `Refusals` the numbers of refusals, `Parts` what the accessors tell; `Theorems` has the claims, link by link.
 pub mod Read
 pub mod Bounds
 pub mod Signed
 pub mod Packed
-pub mod Whole
 pub mod Refusals
 pub mod Parts
 pub mod Theorems

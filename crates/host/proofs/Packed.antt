@@ -23,21 +23,16 @@ module _ (size kind : ℕ) (fields : List ℕ) where
   unfolding packed
   packed-kind h = omega arith
 
-  pub packed-fields : packed size kind fields / 2 ^ 24 ≡ number fields
+  packed-fields : packed size kind fields / 2 ^ 24 ≡ number fields
   unfolding packed
   packed-fields = omega arith
 
-module _ (b : ℕ) (bs : List ℕ) (byte : b < 2 ^ 8) where
-  pub first-field : number (b ∷ bs) % 2 ^ 8 ≡ b
-  unfolding number
-  first-field = omega arith
-
-  pub other-fields : number (b ∷ bs) / 2 ^ 8 ≡ number bs
-  unfolding number
-  other-fields = omega arith
+other-fields : (b : ℕ) (bs : List ℕ) → b < 2 ^ 8 → number (b ∷ bs) / 2 ^ 8 ≡ number bs
+unfolding number
+other-fields b bs h = omega arith
 
 -- field number i, and 0 past the last
-pub field-at : (fields : List ℕ) (i : ℕ) → Bytes fields → number fields / 256 ^ i % 2 ^ 8 ≡ getD fields i 0
+field-at : (fields : List ℕ) (i : ℕ) → Bytes fields → number fields / 256 ^ i % 2 ^ 8 ≡ getD fields i 0
 unfolding number
 field-at [] i y = simp zero-div
 field-at (b ∷ bs) zero y = rw pow-zero (let l = y 0 in omega arith)

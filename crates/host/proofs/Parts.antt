@@ -10,6 +10,7 @@ use borrow.Author.Tests.{leb-true, ne-eqb}
 use Rattle.runs.proofs.Cases.{and-both}
 use Rattle.framing.specs.Answer.{Outcome}
 use Rattle.framing.specs.Link.{Link}
+use Rattle.framing.specs.Whole.{OnlyFrames}
 use Rattle.pcs.specs.Contract as Pcs
 use Rattle.pcs.proofs.Allowed.{sendable, kind-most}
 use Rattle.mdu.specs.Contract as Mdu
@@ -19,7 +20,7 @@ use Rattle.dle.specs.Frame.{content, error}
 use Rattle.expansion.specs.Contract as Expansion
 use Rattle.expansion.specs.Frame.{kindOk}
 use Rattle.host.specs.Read.{encode, pcsCode, mduCode, dleCode, expansionCode, lengthOf, kindOf}
-use Rattle.host.specs.Claims.{OnlyFrames, PartTold}
+use Rattle.host.specs.Claims.{PartTold}
 use Rattle.host.proofs.Packed.{packed-size, packed-kind}
 
 -- of the code of a message that may be sent, an accessor tells a part

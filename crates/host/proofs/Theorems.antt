@@ -1,6 +1,8 @@
 -- What is claimed of the host's calls on each link. `Packed` has the laws of the number itself: each accessor gives back its part where that fits.
 use mathlib.Core.Bool.{cond}
 use lib.Dec.{eqb}
+use Rattle.framing.specs.Whole.{OnlyFrames, FramesRead}
+use Rattle.framing.proofs.Whole.{only-frames, frames-read}
 use Rattle.pcs.specs.Contract as Pcs
 use Rattle.pcs.proofs.Lawful as pcs
 use Rattle.mdu.specs.Contract as Mdu
@@ -10,9 +12,8 @@ use Rattle.dle.proofs.Lawful as dle
 use Rattle.expansion.specs.Contract as Expansion
 use Rattle.expansion.proofs.Lawful as expansion
 use Rattle.host.specs.Read.{pcsCode, mduCode, dleCode, expansionCode, lengthOf, kindOf}
-use Rattle.host.specs.Claims.{FrameBound, OnlyFrames, FramesRead, RefusalsFit, ZeroIsMessage, PartTold}
+use Rattle.host.specs.Claims.{FrameBound, RefusalsFit, ZeroIsMessage, PartTold}
 use Rattle.host.proofs.Bounds as bounds
-use Rattle.host.proofs.Whole.{only-frames, frames-read}
 use Rattle.host.proofs.Refusals.{refusals-fit, zero-is-message, pcs-closes, mdu-closes, dle-closes, expansion-closes}
 use Rattle.host.proofs.Parts.{part-told, pcs-length, pcs-kind, mdu-length, dle-length, dle-kind, expansion-length}
 
@@ -25,7 +26,7 @@ pub pcs-only-frames : OnlyFrames Pcs.link
 pcs-only-frames = only-frames Pcs.link pcs.lawful
 
 pub pcs-frames-read : FramesRead Pcs.link
-pcs-frames-read = frames-read Pcs.link pcs.lawful bounds.pcs-bound
+pcs-frames-read = frames-read Pcs.link pcs.lawful (bounds.short Pcs.link bounds.pcs-bound)
 
 pub pcs-refusals-fit : RefusalsFit Pcs.link
 pcs-refusals-fit = refusals-fit Pcs.link pcs-closes
@@ -48,7 +49,7 @@ pub mdu-only-frames : OnlyFrames Mdu.link
 mdu-only-frames = only-frames Mdu.link mdu.lawful
 
 pub mdu-frames-read : FramesRead Mdu.link
-mdu-frames-read = frames-read Mdu.link mdu.lawful bounds.mdu-bound
+mdu-frames-read = frames-read Mdu.link mdu.lawful (bounds.short Mdu.link bounds.mdu-bound)
 
 pub mdu-refusals-fit : RefusalsFit Mdu.link
 mdu-refusals-fit = refusals-fit Mdu.link mdu-closes
@@ -68,7 +69,7 @@ pub dle-only-frames : OnlyFrames Dle.link
 dle-only-frames = only-frames Dle.link dle.lawful
 
 pub dle-frames-read : FramesRead Dle.link
-dle-frames-read = frames-read Dle.link dle.lawful bounds.dle-bound
+dle-frames-read = frames-read Dle.link dle.lawful (bounds.short Dle.link bounds.dle-bound)
 
 pub dle-refusals-fit : RefusalsFit Dle.link
 dle-refusals-fit = refusals-fit Dle.link dle-closes
@@ -92,7 +93,7 @@ pub expansion-only-frames : OnlyFrames Expansion.link
 expansion-only-frames = only-frames Expansion.link expansion.lawful
 
 pub expansion-frames-read : FramesRead Expansion.link
-expansion-frames-read = frames-read Expansion.link expansion.lawful bounds.expansion-bound
+expansion-frames-read = frames-read Expansion.link expansion.lawful (bounds.short Expansion.link bounds.expansion-bound)
 
 pub expansion-refusals-fit : RefusalsFit Expansion.link
 expansion-refusals-fit = refusals-fit Expansion.link expansion-closes

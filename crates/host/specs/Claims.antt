@@ -15,25 +15,6 @@ module _ (L : Link) where
   abbrev pub FrameBound : Type 0
   FrameBound = (m : L .Message) → L .ok m ≡ true → length (L .frame m) ≤ 2066
 
-  -- m may be sent, the run is its frame, the numbers are its own, and with the store after the call they give it back
-  pub record Means (m : L .Message) (run store : List ℕ) (v : L .Numbers) : Type 0 where
-    pub sendable : L .ok m ≡ true
-    pub framed : run ≡ L .frame m
-    pub told : v ≡ L .numbersOf m
-    pub kept : L .messageOf (readOn L run store .1) v ≡ m
-
-  -- only a frame is read as a message
-  abbrev pub OnlyFrames : Type 0
-  OnlyFrames =
-      (run store : List ℕ) (v : L .Numbers) → Bytes run → L .size ≤ length store → readOn L run store .0 ≡ done v
-      → (m : L .Message) × Means m run store v
-
-  -- and each frame is read as its message
-  abbrev pub FramesRead : Type 0
-  FramesRead =
-      (m : L .Message) (store : List ℕ) → L .Typed m → L .ok m ≡ true → L .size ≤ length store
-      → (readOn L (L .frame m) store .0 ≡ done (L .numbersOf m)) × Means m (L .frame m) store (L .numbersOf m)
-
   -- a refusal is 1 to 13
   abbrev pub RefusalsFit : Type 0
   RefusalsFit = (run store : List ℕ) (n : ℕ) → readOn L run store .0 ≡ refused n → (1 ≤ n) × (n ≤ 13)

@@ -1,71 +1,73 @@
--- What each byte does to a phase that is reached: no byte is lost, and an accepted message stands in the stream as its frame.
-use Prim.Native.Nat.{ℕ, zero, suc, _+_, _*_, _/_, _%_, _≤_, _<_}
+-- What a byte does by the rules.
+use Prim.Native.Nat.{ℕ, suc, _+_, _*_, _/_, _%_, _≤_, _<_}
 use mathlib.Core.Path.{_≡_, refl, ap, sym, _∙_, subst}
-use mathlib.Core.Bool.{true, _&&_, not}
-use mathlib.Core.List.{List, [], _∷_, _++_, append-nil}
+use mathlib.Core.Bool.{Bool, true, false, cond, _&&_, not}
+use mathlib.Core.List.{List, [], _∷_, _++_, append-assoc}
 use mathlib.Core.Option.{Option, none, some}
 use native.Mathlib.Omega.{arith}
-use lib.ListN.{length, getD, take, length-append, List·getD-append}
+use lib.ListN.{length, getD, take, drop, length-append, List·getD-append}
 use lib.Seq.{take-append-seam, length-take-le, getD-append-add}
-use lib.Dec.{eqb, lit<}
+use lib.Dec.{eqb}
 use borrow.Author.Tests.{le-leb, eqb-true, eqb-false, not-true}
 use Rattle.runs.specs.Runs.{Bytes, over}
-use Rattle.runs.proofs.Bytes.{bytes-append}
+use Rattle.runs.proofs.Bytes.{bytes-one, bytes-more}
 use Rattle.runs.proofs.Cases.{by-test, by-eqb, and-both}
-use Rattle.framing.specs.Segment.{Segment, wireOf}
-use Rattle.framing.proofs.Segments.{wireOpt, Accepts}
+use Rattle.framing.specs.Segment.{Segment, noise, refused, accepted}
+use Rattle.framing.proofs.Byte.{Takes, goes-on, closes}
 use Rattle.checksum.specs.Crc.{crc16Of}
-use Rattle.mdu.specs.Frame.{Message, lengthOk, ok, headerSum, header, trailer, frame}
-use Rattle.mdu.specs.Rules.{Phase, hunting, head, tail, gathered, held, stated, sentCheck, enter, finish, cut}
-use Rattle.mdu.proofs.Entered.{Good, entered, two}
+use Rattle.mdu.specs.Frame.{Message, lengthOk, headerSum, header, trailer, frame}
+use Rattle.mdu.specs.Rules.{Phase, hunting, head, tail, size, gathered, held, stated, sentCheck, enter, finish, cut}
+use Rattle.mdu.specs.Contract.{front, numbersOf, messageOf}
+use Rattle.mdu.proofs.Known.{length-most}
+use Rattle.mdu.proofs.Entered.{Good, reached, entered, two}
 
--- w is what is held with the byte: it goes to the segment that the byte closes or stays held, and is the frame of an accepted message
-pub record Takes (w : List ℕ) (r : Phase × Option (Segment Message)) : Type 0 where
-  pub holds : wireOpt frame (r .1) ++ held (r .0) ≡ w
-  pub good : Good (r .0)
-  pub stands : (store : List ℕ) → take (length (gathered (r .0))) (over w store) ≡ gathered (r .0)
-  pub accepts : Accepts (λ m. (ok m ≡ true) × (frame m ≡ w)) (r .1)
+-- a byte that leads to r: it is gathered, where w is what is then held, which stands at the start of the store
+abbrev Next : List ℕ → List ℕ → Phase × Option (Segment Message) → Type 0
+Next g w r = Takes reached g w w r
 
-bytes-more : (g : List ℕ) (b : ℕ) → Bytes g → b < 256 → Bytes (g ++ (b ∷ []))
-bytes-more g b h y = bytes-append g (b ∷ []) h one
+enter-takes : (g w : List ℕ) → length w ≡ 6 → Bytes w → getD w 0 0 ≡ 0xE3 → Next g w (enter w)
+enter-takes g w l y e =
+    by-test (Next g w) (eqb (getD w 1 0) 0x01 && not (eqb (getD w 4 0) 0))
+    (λ t. let v = and-both (eqb (getD w 1 0) 0x01) (not (eqb (getD w 4 0) 0)) t in
+    by-eqb (Next g w) (getD w 5 0) (headerSum w)
+    (λ s. by-test (Next g w) (lengthOk (stated w))
+    (λ k. goes-on reached g w (tail (stated w) w) refl
+    (entered w l y e (eqb-true (getD w 1 0) 1 (v .0)) (eqb-false (getD w 4 0) 0 (not-true (eqb (getD w 4 0) 0) (v .1))) s k))
+    (λ _. ends 10))
+    (λ _. ends 8))
+    (λ _. ends 9)
   where
-    one : Bytes (b ∷ [])
-    one zero = y
-    one (suc i) = lit< tt
+    ends : (n : ℕ) → Next g w (hunting, some (refused n w))
+    ends n = closes reached g w w (refused n w) refl (omega arith) tt
 
-waits : (w : List ℕ) (p : Phase) → gathered p ≡ w → Good p → Takes w (p, none)
-waits w p e h = record { holds = e; good = h; stands = λ store. rw e (take-append-seam w _); accepts = tt }
-
-closes : (w : List ℕ) (s : Segment Message) → (wireOf frame s ≡ w) × Accepts (λ m. (ok m ≡ true) × (frame m ≡ w)) (some s) → Takes w (hunting, some s)
-closes w s h = record { holds = append-nil (wireOf frame s) ∙ h .0; good = tt; stands = λ store. refl; accepts = h .1 }
-
-enter-takes : (g : List ℕ) → length g ≡ 6 → Bytes g → getD g 0 0 ≡ 0xE3 → Takes g (enter g)
-enter-takes g l y e =
-    by-test (Takes g) (eqb (getD g 1 0) 0x01 && not (eqb (getD g 4 0) 0))
-    (λ t. let v = and-both (eqb (getD g 1 0) 0x01) (not (eqb (getD g 4 0) 0)) t in
-    by-eqb (Takes g) (getD g 5 0) (headerSum g)
-    (λ s. by-test (Takes g) (lengthOk (stated g))
-    (λ k. waits g (tail (stated g) g) refl
-    (entered g l y e (eqb-true (getD g 1 0) 1 (v .0)) (eqb-false (getD g 4 0) 0 (not-true (eqb (getD g 4 0) 0) (v .1))) s k))
-    (λ _. closes g _ (refl, tt)))
-    (λ _. closes g _ (refl, tt)))
-    (λ _. closes g _ (refl, tt))
+-- a message whose frame stands at the start of the store is read there
+read-back : (m : Message) (w store : List ℕ) → frame m ≡ w → messageOf (over w store) (numbersOf m) ≡ m
+read-back m w store e =
+    ap (λ (x : List ℕ). messageOf (over x store) (numbersOf m)) (sym e)
+    ∙ rw (le-leb (6 + length (m .body)) (length (over (frame m) store)) (simp length-append (omega arith)))
+    (ap (λ (x : List ℕ). record { address = m .address; body = x })
+    (ap (take (length (m .body))) (append-assoc (m .body) (trailer (crc16Of (m .body))) (drop (length (frame m)) store))
+    ∙ take-append-seam (m .body) (trailer (crc16Of (m .body)) ++ drop (length (frame m)) store)))
 
 -- the last byte of a frame, with its header and the k + 2 bytes e behind it
-finish-takes : (k : ℕ) (g : List ℕ) (a : ℕ) (e : List ℕ) → g ≡ header k a ++ e → length e ≡ k + 2 → 1 ≤ a → lengthOk k ≡ true → Bytes e
-    → Takes g (hunting, some (finish k g))
-finish-takes k g a e w l low allowed y =
-    subst (λ (x : List ℕ). Takes x (hunting, some (finish k x))) (sym w)
-    (closes (header k a ++ e) (finish k (header k a ++ e))
-    (by-eqb P (sentCheck k (header k a ++ e)) (crc16Of body)
-    (λ c. (framed (sym c ∙ numbers), (rw (length-take-le k e (omega arith), allowed, le-leb 1 a low), framed (sym c ∙ numbers))))
-    (λ _. (refl, tt))))
+finish-takes : (k : ℕ) (g w : List ℕ) (a : ℕ) (e : List ℕ) → w ≡ header k a ++ e → length e ≡ k + 2 → 1 ≤ a → lengthOk k ≡ true → Bytes e
+    → Next g w (hunting, some (finish k w))
+finish-takes k g w a e i l low allowed y =
+    subst (λ (x : List ℕ). Next g x (hunting, some (finish k x))) (sym i)
+    (by-eqb (λ (s : Segment Message). Next g whole (hunting, some s)) (sentCheck k whole) (crc16Of body)
+    (λ c. let f = framed (sym c ∙ numbers) in
+    closes reached g whole whole (accepted (record { address = a; body = body })) f fits
+    (record { may = rw (length-take-le k e (omega arith), allowed, le-leb 1 a low); read = λ store _ _. read-back _ whole store f; hunts = refl }))
+    (λ _. closes reached g whole whole (refused 8 whole) refl fits tt))
   where
-    P : Segment Message → Type 0
-    P s = (wireOf frame s ≡ header k a ++ e) × Accepts (λ m. (ok m ≡ true) × (frame m ≡ header k a ++ e)) (some s)
+    whole : List ℕ
+    whole = header k a ++ e
 
     body : List ℕ
     body = take k e
+
+    fits : length (header k a ++ e) ≤ size
+    fits = omega (arith, length-most k allowed)
 
     numbers : sentCheck k (header k a ++ e) ≡ getD e k 0 * 256 + getD e (suc k) 0
     numbers =
@@ -78,20 +80,24 @@ finish-takes k g a e w l low allowed y =
         let m : crc16Of body % 256 ≡ getD e (suc k) 0 = omega (arith, y (suc k)) in
         rw (length-take-le k e (omega arith), h, m) (ap (λ (x : List ℕ). header k a ++ x) (sym (two e k l)))
 
-pub cut-takes : (p : Phase) (b : ℕ) → b < 256 → Good p → Takes (held p ++ (b ∷ [])) (cut p b)
-cut-takes hunting b y h =
-    by-eqb (Takes (b ∷ [])) b 0xE3 (λ e. waits (b ∷ []) (head (b ∷ [])) refl (bytes-more [] b (λ i. omega arith) y, omega arith, omega arith, e)) (λ _. closes _ _ (refl, tt))
-cut-takes (head g) b y h =
+pub takes : (p : Phase) (b : ℕ) → b < 256 → Good p → Takes reached (gathered p) (held p ++ (b ∷ [])) (front p b) (cut p b)
+takes hunting b y h = go (eqb b 0xE3) (eqb-true b 0xE3)
+  where
+    go : (t : Bool) → (t ≡ true → b ≡ 0xE3)
+        → Takes reached [] (b ∷ []) (cond t (b ∷ []) []) (cond t (head (b ∷ []), none) (hunting, some (noise (b ∷ []))))
+    go true e = goes-on reached [] (b ∷ []) (head (b ∷ [])) refl (bytes-one b y, omega arith, omega arith, e refl)
+    go false e = closes reached [] (b ∷ []) [] (noise (b ∷ [])) refl (omega arith) tt
+takes (head g) b y h =
     let first = List·getD-append g (b ∷ []) 0 0 (omega (arith, h .1)) ∙ h .3 in
-    by-eqb (Takes (g ++ (b ∷ []))) (length g) 5
-    (λ e. enter-takes (g ++ (b ∷ [])) (simp length-append (omega arith)) (bytes-more g b (h .0) y) first)
-    (λ n. waits _ (head (g ++ (b ∷ []))) refl
+    by-eqb (Next g (g ++ (b ∷ []))) (length g) 5
+    (λ e. enter-takes g (g ++ (b ∷ [])) (simp length-append (omega arith)) (bytes-more g b (h .0) y) first)
+    (λ n. goes-on reached g _ (head (g ++ (b ∷ []))) refl
     (bytes-more g b (h .0) y, simp length-append (omega arith), simp length-append (omega arith), first))
-cut-takes (tail k g) b y h =
-    by-eqb (Takes (g ++ (b ∷ []))) (length g) (7 + k)
-    (λ e. finish-takes k (g ++ (b ∷ [])) (h .address) (h .rest ++ (b ∷ [])) more (simp length-append (omega (arith, long))) (h .low) (h .allowed)
+takes (tail k g) b y h =
+    by-eqb (Next g (g ++ (b ∷ []))) (length g) (7 + k)
+    (λ e. finish-takes k g (g ++ (b ∷ [])) (h .address) (h .rest ++ (b ∷ [])) more (simp length-append (omega (arith, long))) (h .low) (h .allowed)
     (bytes-more (h .rest) b (h .bytes) y))
-    (λ n. waits _ (tail k (g ++ (b ∷ []))) refl
+    (λ n. goes-on reached g _ (tail k (g ++ (b ∷ []))) refl
     (record {
       address = h .address;
       rest = h .rest ++ (b ∷ []);

@@ -1,5 +1,5 @@
 -- The phases that a receiver reaches, and what their gathered bytes are.
-use Prim.Native.Nat.{ℕ, suc, _+_, _/_, _%_, _≤_}
+use Prim.Native.Nat.{ℕ, suc, _+_, _/_, _%_, _≤_, _<_}
 use mathlib.Core.Path.{_≡_, refl, ap, sym, _∙_}
 use mathlib.Core.Bool.{true}
 use mathlib.Core.List.{List, [], _∷_, _++_}
@@ -7,8 +7,11 @@ use native.Mathlib.Omega.{arith}
 use lib.ListN.{length, getD, take, take-append-drop, drop-of-length-le}
 use lib.Seq.{drop-cons}
 use Rattle.runs.specs.Runs.{Bytes}
+use Rattle.framing.proofs.Byte.{Reached}
 use Rattle.mdu.specs.Frame.{lengthOk, headerSum, header}
-use Rattle.mdu.specs.Rules.{Phase, hunting, head, tail, stated}
+use Rattle.mdu.specs.Rules.{Phase, hunting, head, tail, size, gathered, stated}
+use Rattle.mdu.specs.Contract.{link}
+use Rattle.mdu.proofs.Known.{Sized, length-most}
 
 -- a header that was entered, and what follows it
 pub record Entered (k : ℕ) (g : List ℕ) : Type 0 where
@@ -24,6 +27,30 @@ abbrev pub Good : Phase → Type 0
 Good hunting = Unit
 Good (head g) = Bytes g × (1 ≤ length g) × (length g ≤ 5) × (getD g 0 0 ≡ 0xE3)
 Good (tail k g) = Entered k g
+
+pub good-sized : (p : Phase) → Good p → Sized p
+good-sized hunting g = tt
+good-sized (head x) g = (g .1, omega (arith, g .2))
+good-sized (tail k x) g =
+    let e : length x ≡ 6 + length (g .rest) = ap length (g .whole) ∙ omega arith in
+    record { allowed = g .allowed; low = omega arith; high = omega (arith, g .short); most = length-most k (g .allowed) }
+
+-- fewer bytes than the store holds, with room for one more
+pub good-small : (p : Phase) → Good p → length (gathered p) < size
+good-small hunting g = omega arith
+good-small (head x) g = omega (arith, g .2)
+good-small (tail k x) g = let s = good-sized (tail k x) g in omega (arith, s .high, s .most)
+
+abbrev pub reached : Reached link
+reached =
+    record {
+      Good = Good;
+      fits = λ p h. omega (arith, good-small p h);
+      few = λ p h. omega (arith, good-small p h);
+      good-first = tt;
+      held-first = refl;
+      gathered-first = refl;
+    }
 
 six : (g : List ℕ) → length g ≡ 6 → g ≡ getD g 0 0 ∷ getD g 1 0 ∷ getD g 2 0 ∷ getD g 3 0 ∷ getD g 4 0 ∷ getD g 5 0 ∷ []
 six [] h = absurd (omega arith)

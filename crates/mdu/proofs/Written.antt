@@ -9,7 +9,7 @@ use lib.Seq.{sets}
 use Rattle.runs.proofs.Run.{sets-append}
 use Rattle.framing.specs.Answer.{done, refused}
 use Rattle.framing.specs.Writer.{writes}
-use Rattle.framing.proofs.Stored.{stored-done, stored-refused}
+use Rattle.framing.proofs.Stored.{stored-so, stored-refused}
 use Rattle.checksum.specs.Crc.{crc16Of}
 use Rattle.mdu.specs.Frame.{Message, ok, header, trailer, frame}
 
@@ -27,7 +27,7 @@ module _ (m : Message) (out : List ℕ) where
   pub written : (after : List ℕ) → ok m ≡ true → 8 + length (m .body) ≤ length out → after ≡ sets out 0 (frame m)
       → (done (8 + length (m .body)), after) ≡ writes ok frame m out
   written after o h e =
-      (λ i. (done (sym frame-length i), e i)) ∙ sym (stored-done (frame m) out 0 (omega (arith, frame-length))) ∙ rw o
+      stored-so (frame m) out 0 after (8 + length (m .body)) (sym frame-length) (omega arith) e ∙ rw o
 
   pub too-short : ok m ≡ true → length out < 8 + length (m .body) → (refused 2, out) ≡ writes ok frame m out
   too-short o h = sym (stored-refused (frame m) out 0 (omega (arith, frame-length))) ∙ rw o

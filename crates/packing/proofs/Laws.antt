@@ -8,13 +8,12 @@ use native.Mathlib.Omega.{arith}
 use lib.Dec.{lit<}
 use lib.ListN.{length, getD}
 use Rattle.runs.specs.Runs.{Bytes}
-use Rattle.runs.proofs.Bytes.{bytes-left, bytes-right, bytes-append}
+use Rattle.runs.proofs.Bytes.{bytes-left, bytes-right}
 use Rattle.runs.proofs.Cases.{and-both}
 use Rattle.packing.specs.Packed.{packedGroup, packed}
 use Rattle.packing.specs.Unpacked.{unpackedGroup, dataOf, allSent, wellEnded, wellPacked, unpacked}
 use Rattle.packing.proofs.Groups.{First, by-groups}
 use Rattle.packing.proofs.Seven.{allSent-at}
-use Rattle.packing.proofs.Tops.{joined-bytes}
 use Rattle.packing.proofs.Group.{length-group, length-unpackedGroup, group-back}
 use Rattle.packing.proofs.Lengths.{packed-nil, packed-first, dataOf-nil, dataOf-first, length-packed, length-dataOf}
 use Rattle.packing.proofs.WellPacked.{group-well, well-nil, well-first, well-group}
@@ -82,13 +81,3 @@ packed-sent-at d h = allSent-at (packed d) (packed-sent d h)
 
 pub length-unpacked : (p d : List ℕ) → unpacked p ≡ some d → length d ≡ length p - (length p + 7) / 8
 length-unpacked p d e = ap length (sym (unpacked-is p d e .1)) ∙ length-dataOf p
-
-dataOf-bytes : (p : List ℕ) → Bytes (dataOf p)
-unfolding unpackedGroup
-dataOf-bytes =
-    by-groups 8 (lit< tt) (λ p. Bytes (dataOf p)) (rw dataOf-nil (λ i. lit< tt))
-    (λ q r f ih. rw (dataOf-first q r f) (bytes-append (unpackedGroup (length q - 1) q) (dataOf r) (joined-bytes _ _) ih))
-
--- what is unpacked are bytes, whatever was packed
-pub unpacked-bytes : (p d : List ℕ) → unpacked p ≡ some d → Bytes d
-unpacked-bytes p d e i = rw (unpacked-is p d e .1) at (dataOf-bytes p i)

@@ -2,7 +2,7 @@
 use mathlib.Core.Path.{_≡_, refl, ap, ap₂, _∙_}
 use mathlib.Core.Bool.{true}
 use mathlib.Core.List.{List, [], _∷_, map}
-use Prim.Native.Nat.{ℕ, zero, suc, _+_, _*_, _/_, _%_, _^_, _≤_, _<_}
+use Prim.Native.Nat.{ℕ, suc, _+_, _*_, _/_, _%_, _^_, _≤_, _<_}
 use native.Mathlib.Nat.{mod-eq-of-lt, mod-lt, pow-suc, div-div-eq-div-mul, div-lt-iff-lt-mul, div-one, mul-one, one-mul, le-refl, lt-of-lt-of-le}
 use native.Mathlib.Omega.{arith}
 use borrow.Author.Tests.{eq-eqb}
@@ -66,12 +66,6 @@ pub length-joined : (t : ℕ) (g : List ℕ) → length (joined t g) ≡ length 
 unfolding joined
 length-joined t [] = refl
 length-joined t (b ∷ g) = ap suc (length-joined t g)
-
-pub joined-bytes : (t : ℕ) (g : List ℕ) → Bytes (joined t g)
-unfolding joined
-joined-bytes t [] i = lit< tt
-joined-bytes t (b ∷ g) zero = omega arith
-joined-bytes t (b ∷ g) (suc i) = joined-bytes t g i
 
 -- ---- the places: the first law is all that the others know of `lastPlace`
 

@@ -1,19 +1,17 @@
--- What a byte does by the rules: nothing is lost, and only messages that may be sent are accepted, each standing in the stream as its frame.
-use Prim.Native.Nat.{ℕ, zero, suc, _+_, _-_, _/_, _%_, _≤_, _<_}
+-- What a byte does by the rules.
+use Prim.Native.Nat.{ℕ, suc, _+_, _-_, _/_, _%_, _^_, _≤_, _<_}
 use mathlib.Core.Path.{_≡_, refl, ap, sym, _∙_}
 use mathlib.Core.Bool.{true}
-use mathlib.Core.List.{List, [], _∷_, _++_, append-nil, append-assoc}
+use mathlib.Core.List.{List, [], _∷_, _++_, append-assoc}
 use mathlib.Core.Option.{Option, none, some}
 use native.Mathlib.Omega.{arith}
-use lib.Dec.{lit<}
-use lib.ListN.{length, getD, take, length-append, length-take, length-drop}
+use lib.ListN.{length, getD, take, drop, length-append, length-take, length-drop}
 use lib.Seq.{take-suc, take-all, take-add, take-append-seam}
 use borrow.Author.Tests.{le-leb}
-use Rattle.runs.specs.Runs.{Bytes, over}
-use Rattle.runs.proofs.Bytes.{bytes-append}
+use Rattle.runs.specs.Runs.{over}
 use Rattle.runs.proofs.Cases.{by-test, by-eqb, by-ltb}
-use Rattle.framing.specs.Segment.{Segment, wireOf}
-use Rattle.framing.proofs.Segments.{accepts-wire, wireOpt, Accepts}
+use Rattle.framing.specs.Segment.{Segment, refused, accepted, noiseAfter}
+use Rattle.framing.proofs.Byte.{Reached, Takes, goes-on, restarts, closes, Ends, by-end, ends-quiet}
 use Rattle.packing.specs.Seven.{sent}
 use Rattle.packing.specs.Packed.{packed}
 use Rattle.packing.specs.Unpacked.{unpacked}
@@ -23,30 +21,28 @@ use Rattle.packing.proofs.Laws.{packed-unpacked}
 use Rattle.checksum.specs.Sum.{sumOf}
 use Rattle.pcs.specs.Frame.{Message, ok, body, frame}
 use Rattle.pcs.specs.Rules.{Phase, hunting, inside, size, gathered, held, stated, packedPart, asksCrc, fieldsOk, messageWith, unpack, judge, cut}
-use Rattle.pcs.specs.Contract.{frontOf}
-use Rattle.pcs.proofs.Allowed.{kind-same, Allowed, allowed}
+use Rattle.pcs.specs.Contract.{frontOf, numbersOf, dataOf, messageOf, link}
+use Rattle.pcs.proofs.Allowed.{kind-same, Allowed, allowed, sendable}
 
--- what holds of each phase that is reached
-abbrev pub Good : Phase → Type 0
-Good p = Bytes (gathered p) × (length (gathered p) ≤ size)
+-- no more is gathered than the store holds
+abbrev pub reached : Reached link
+reached =
+    record {
+      Good = λ p. length (gathered p) ≤ size;
+      fits = λ p h. h;
+      few = held-short;
+      good-first = omega arith;
+      held-first = refl;
+      gathered-first = refl;
+    }
+  where
+    held-short : (p : Phase) → length (gathered p) ≤ size → length (held p) < 2 ^ 32
+    held-short hunting h = omega arith
+    held-short (inside g) h = omega arith
 
--- what a byte gives, w being what was held with the byte
-pub record Fair (w : List ℕ) (r : Phase × Option (Segment Message)) : Type 0 where
-  pub holds : wireOpt frame (r .1) ++ held (r .0) ≡ w
-  pub good : Good (r .0)
-  pub stands : (store : List ℕ) → take (length (gathered (r .0))) (over (frontOf r) store) ≡ gathered (r .0)
-  pub may : Accepts (λ m. ok m ≡ true) (r .1)
-  pub framed : Accepts (λ m. frame m ≡ w) (r .1)
-
-pub none-good : Good hunting
-none-good = (λ i. lit< tt, omega arith)
-
--- the segment w is over
-abbrev Whole : List ℕ → Segment Message → Type 0
-Whole w s = (wireOf frame s ≡ w) × Accepts (λ m. ok m ≡ true) (some s)
-
-closed : (w : List ℕ) (s : Segment Message) → Whole w s → Fair w (hunting, some s)
-closed w s h = record { holds = append-nil (wireOf frame s) ∙ h .0; good = none-good; stands = λ store. refl; may = h .1; framed = accepts-wire frame s w (h .0) }
+-- a byte that leads to r
+abbrev Next : List ℕ → List ℕ → Phase × Option (Segment Message) → Type 0
+Next g w r = Takes reached g w (frontOf r) r
 
 first-eight : (g : List ℕ) → 8 ≤ length g
     → take 8 g ≡ getD g 0 0 ∷ getD g 1 0 ∷ getD g 2 0 ∷ getD g 3 0 ∷ getD g 4 0 ∷ getD g 5 0 ∷ getD g 6 0 ∷ getD g 7 0 ∷ []
@@ -86,14 +82,14 @@ module _ (g : List ℕ) (long : 9 ≤ length g) (short : length g ≤ size) (f :
       ∙ sym (take-add 8 (length g - 9) g)
       ∙ ap (λ (x : ℕ). take x g) (sym k)
 
-  pub frame-is : frame (messageWith g d) ≡ 253 ∷ g ++ (254 ∷ [])
+  frame-is : frame (messageWith g d) ≡ 253 ∷ g ++ (254 ∷ [])
   frame-is =
       ap (λ (x : List ℕ). 253 ∷ (x ++ (sumOf x ∷ 254 ∷ []))) body-is
       ∙ ap (λ (x : ℕ). 253 ∷ (take (length g - 1) g ++ (x ∷ 254 ∷ []))) (sym s)
       ∙ ap (λ (x : List ℕ). 253 ∷ x) (sym (append-assoc (take (length g - 1) g) (getD g (length g - 1) 0 ∷ []) (254 ∷ [])))
       ∙ ap (λ (x : List ℕ). 253 ∷ (x ++ (254 ∷ []))) (last-is g (omega arith))
 
-  pub may-send : ok (messageWith g d) ≡ true
+  may-send : ok (messageWith g d) ≡ true
   may-send =
       let e = length-packed d in
       rw (
@@ -106,40 +102,63 @@ module _ (g : List ℕ) (long : 9 ≤ length g) (short : length g ≤ size) (f :
         le-leb (length d) 1024 (omega (arith, size-is)),
       )
 
-judge-fair : (g w : List ℕ) → length g ≤ size → w ≡ 253 ∷ g ++ (254 ∷ []) → Whole w (judge g w)
-judge-fair g w h e =
-    by-ltb (Whole w) (length g) 9 (λ _. (refl, tt)) (λ l.
-    by-test (Whole w) (asksCrc g) (λ _. (refl, tt)) (λ _.
-    by-eqb (Whole w) (getD g (length g - 1) 0) (sumOf (take (length g - 1) g))
-    (λ s. by-test (Whole w) (fieldsOk g)
-    (λ f. by-eqb (Whole w) (stated g) (length g - 9) (λ n. unpack-fair l (allowed g f) n s (unpacked (packedPart g)) refl) (λ _. (refl, tt)))
-    (λ _. (refl, tt)))
-    (λ _. (refl, tt))))
-  where
-    unpack-fair : 9 ≤ length g → Allowed g → stated g ≡ length g - 9 → getD g (length g - 1) 0 ≡ sumOf (take (length g - 1) g)
-        → (o : Option (List ℕ)) → unpacked (packedPart g) ≡ o → Whole w (unpack g w o)
-    unpack-fair l f n s none u = (refl, tt)
-    unpack-fair l f n s (some d) u = (frame-is g l h f n s d u ∙ sym e, may-send g l h f n s d u)
+-- the end of a frame: an accepted message has the gathered bytes between its marks
+abbrev Judged : List ℕ → Message → Type 0
+Judged g m = length g ≤ size → (frame m ≡ 253 ∷ g ++ (254 ∷ [])) × (ok m ≡ true)
 
-pub fair : (p : Phase) (b : ℕ) → b < 256 → Good p → Fair (held p ++ (b ∷ [])) (cut p b)
-fair hunting b y h =
-    by-eqb (Fair (b ∷ [])) b 253 (λ e. record { holds = rw e; good = none-good; stands = λ store. refl; may = tt; framed = tt }) (λ _. closed _ _ (refl, tt))
-fair (inside g) b y h =
-    by-eqb (Fair w) b 253 (λ e. record { holds = rw e; good = none-good; stands = λ store. refl; may = tt; framed = tt })
-    (λ _. by-eqb (Fair w) b 254 (λ e. closed w (judge g w) (judge-fair g w (h .1) (rw e)))
-    (λ _. by-ltb (Fair w) (length g) size
-    (λ l. record {
-      holds = refl;
-      good = (bytes-append g (b ∷ []) (h .0) one, simp length-append (omega arith));
-      stands = λ store. take-append-seam (g ++ (b ∷ [])) _;
-      may = tt;
-      framed = tt;
-    })
-    (λ _. closed _ _ (refl, tt))))
+judge-ends : (g w : List ℕ) → Ends (Judged g) w (judge g w)
+judge-ends g w =
+    by-ltb P (length g) 9 (λ _. refl) (λ l.
+    by-test P (asksCrc g) (λ _. refl) (λ _.
+    by-eqb P (getD g (length g - 1) 0) (sumOf (take (length g - 1) g))
+    (λ s. by-test P (fieldsOk g)
+    (λ f. by-eqb P (stated g) (length g - 9) (λ n. unpack-ends l (allowed g f) n s (unpacked (packedPart g)) refl) (λ _. refl))
+    (λ _. refl))
+    (λ _. refl)))
+  where
+    P : Segment Message → Type 0
+    P = Ends (Judged g) w
+
+    unpack-ends : 9 ≤ length g → Allowed g → stated g ≡ length g - 9 → getD g (length g - 1) 0 ≡ sumOf (take (length g - 1) g)
+        → (o : Option (List ℕ)) → unpacked (packedPart g) ≡ o → P (unpack g w o)
+    unpack-ends l f n s none u = refl
+    unpack-ends l f n s (some d) u = λ h. (frame-is g l h f n s d u, may-send g l h f n s d u)
+
+pub judge-noise : (g w : List ℕ) (n : ℕ) → noiseAfter (some (judge g w)) n ≡ n
+judge-noise g w n = ends-quiet (Judged g) w (judge g w) (judge-ends g w) n
+
+-- an accepted message is read back from its numbers where its data was written
+read-back : (m : Message) (store : List ℕ) → messageOf (over (m .payload) store) (numbersOf m) ≡ m
+read-back m store =
+    let here : dataOf (over (m .payload) store) (numbersOf m) ≡ m .payload =
+    rw (le-leb (length (m .payload)) (length (over (m .payload) store)) (simp length-append (omega arith)))
+    (take-append-seam (m .payload) (drop (length (m .payload)) store)) in
+    λ i. record {
+      receiver = m .receiver;
+      sender = m .sender;
+      kind = m .kind;
+      number = m .number;
+      sender-port = m .sender-port;
+      receiver-port = m .receiver-port;
+      payload = here i;
+    }
+
+judge-takes : (g w : List ℕ) → length g ≤ size → 253 ∷ g ++ (254 ∷ []) ≡ w → Next g w (hunting, some (judge g w))
+judge-takes g w h e =
+    by-end (λ (s : Segment Message). Next g w (hunting, some s)) (Judged g) w (judge g w) (judge-ends g w)
+    (λ n. closes reached g w [] (refused n w) refl (omega arith) tt)
+    (λ m t. closes reached g w (m .payload) (accepted m) (t h .0 ∙ e) (omega (arith, sendable m (t h .1) .most))
+    (record { may = t h .1; read = λ store _ _. read-back m store; hunts = refl }))
+
+pub takes : (p : Phase) (b : ℕ) → length (gathered p) ≤ size → Next (gathered p) (held p ++ (b ∷ [])) (cut p b)
+takes hunting b h =
+    by-eqb (Next [] (b ∷ [])) b 253 (λ e. goes-on reached [] (b ∷ []) (inside []) (rw e) (omega arith))
+    (λ _. closes reached [] (b ∷ []) [] _ refl (omega arith) tt)
+takes (inside g) b h =
+    by-eqb (Next g w) b 253 (λ e. restarts reached g w (inside []) 4 (253 ∷ g) (rw e) (omega arith))
+    (λ _. by-eqb (Next g w) b 254 (λ e. judge-takes g w h (rw e))
+    (λ _. by-ltb (Next g w) (length g) size (λ l. goes-on reached g w (inside (g ++ (b ∷ []))) refl (simp length-append (omega arith)))
+    (λ _. closes reached g w [] (refused 5 w) refl (omega arith) tt)))
   where
     w : List ℕ
     w = 253 ∷ g ++ (b ∷ [])
-
-    one : Bytes (b ∷ [])
-    one zero = y
-    one (suc i) = lit< tt

@@ -12,7 +12,7 @@ use borrow.Author.Tests.{ltb-false}
 use Rattle.runs.specs.Runs.{over}
 use Rattle.runs.proofs.Run.{sets-over}
 use Rattle.framing.specs.Answer.{Outcome}
-use Rattle.framing.specs.Segment.{Segment, refused, eventOf, noiseAfter}
+use Rattle.framing.specs.Segment.{Segment, refused, eventOf}
 use Rattle.framing.specs.Link.{told}
 use Rattle.packing.specs.Unpacked.{unpacked}
 use Rattle.packing.specs.Contract.{unpackedIn}
@@ -24,19 +24,14 @@ use Rattle.pcs.specs.Contract.{frontOf, numbersOf, link}
 use Rattle.pcs.specs.Steps.{faultOf, toldWith}
 use Rattle.pcs.proofs.Store.{packed-at}
 
--- what a fault, or none, says of the segment that is closed; it is no noise
+-- what a fault, or none, says of the segment that is closed
 record Judged (g wire : List ℕ) (fault : ℕ) (s : Segment Frame.Message) : Type 0 where
   fails : (fault ≡ 0 → ⊥) → s ≡ refused fault wire
   passes : fault ≡ 0 → s ≡ unpack g wire (unpacked (packedPart g))
-  quiet : (n : ℕ) → noiseAfter (some s) n ≡ n
 
 module _ (g wire : List ℕ) where
   failed : (n : ℕ) → (n ≡ 0 → ⊥) → Judged g wire n (refused n wire)
-  failed n h = record { fails = λ _. refl; passes = λ e. absurd (h e); quiet = λ _. refl }
-
-  unpack-quiet : (o : Option (List ℕ)) (n : ℕ) → noiseAfter (some (unpack g wire o)) n ≡ n
-  unpack-quiet none n = refl
-  unpack-quiet (some d) n = refl
+  failed n h = record { fails = λ _. refl; passes = λ e. absurd (h e) }
 
   cases : (a b c d e : Bool)
       → Judged g wire (cond a 6 (cond b 11 (cond c (cond d (cond e 0 10) 9) 8)))
@@ -47,7 +42,7 @@ module _ (g wire : List ℕ) where
   cases false false false d e = failed 8 (λ h. omega arith)
   cases false false true false e = failed 9 (λ h. omega arith)
   cases false false true true false = failed 10 (λ h. omega arith)
-  cases false false true true true = record { fails = λ h. absurd (h refl); passes = λ _. refl; quiet = unpack-quiet (unpacked (packedPart g)) }
+  cases false false true true true = record { fails = λ h. absurd (h refl); passes = λ _. refl }
 
   judged : Judged g wire (faultOf g) (judge g wire)
   unfolding faultOf
@@ -58,9 +53,6 @@ module _ (g wire : List ℕ) where
 
   judge-unpacks : faultOf g ≡ 0 → judge g wire ≡ unpack g wire (unpacked (packedPart g))
   judge-unpacks = judged .passes
-
-  pub judge-quiet : (n : ℕ) → noiseAfter (some (judge g wire)) n ≡ n
-  judge-quiet = judged .quiet
 
 -- without a fault there are at least nine bytes
 pub fault-long : (g : List ℕ) → faultOf g ≡ 0 → 9 ≤ length g

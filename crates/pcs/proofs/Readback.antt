@@ -10,7 +10,7 @@ use lib.ListN.{length, getD, take, length-append}
 use lib.Seq.{append-snoc, take-at, getD-at}
 use borrow.Author.Tests.{le-ltb, lt-ltb, le-leb, lt-leb, eq-eqb, ne-eqb, eqb-true}
 use Rattle.runs.specs.Runs.{Bytes}
-use Rattle.runs.proofs.Bytes.{bytes-append}
+use Rattle.runs.proofs.Bytes.{bytes-append, bytes-one, bytes-more}
 use Rattle.framing.specs.Claims.{AllOf}
 use Rattle.framing.specs.Receiver.{feed}
 use Rattle.framing.specs.Segment.{Segment, accepted, message, step}
@@ -58,10 +58,6 @@ inner-bytes : (xs : List ℕ) → AllOf Inner xs → Bytes xs
 inner-bytes [] h i = lit< tt
 inner-bytes (x ∷ xs) h zero = h .0 .0
 inner-bytes (x ∷ xs) h (suc i) = inner-bytes xs (h .1) i
-
-byte-more : (x : ℕ) (xs : List ℕ) → x < 256 → Bytes xs → Bytes (x ∷ xs)
-byte-more x xs h k zero = h
-byte-more x xs h k (suc i) = k i
 
 -- inner bytes are gathered, as long as there is room
 gathers : (g xs : List ℕ) (n : ℕ) → AllOf Inner xs → length g + length xs ≤ size → Quiet (step cut) (at (inside g) n) xs (at (inside (g ++ xs)) n)
@@ -186,7 +182,7 @@ module _ (m : Message) (y : Bytes (m .payload)) (s : Sendable m) where
   frame-run = ap (λ (x : List ℕ). 253 ∷ x) (sym (append-assoc (body m) (sumOf (body m) ∷ []) (254 ∷ [])))
 
   run-bytes : Bytes ((253 ∷ run) ++ (254 ∷ []))
-  run-bytes = bytes-append (253 ∷ run) (254 ∷ []) (byte-more 253 run (lit< tt) (inner-bytes run run-inner)) (byte-more 254 [] (lit< tt) (λ i. lit< tt))
+  run-bytes = bytes-more (253 ∷ run) 254 (bytes-append (253 ∷ []) run (bytes-one 253 (lit< tt)) (inner-bytes run run-inner)) (lit< tt)
 
 pub frame-bytes : (m : Message) → Typed m → ok m ≡ true → Bytes (frame m)
 frame-bytes m t o = subst (λ (w : List ℕ). Bytes w) (sym (frame-run m (t .payload) (sendable m o))) (run-bytes m (t .payload) (sendable m o))

@@ -1,20 +1,22 @@
 -- The store after a byte: what is gathered in front, and the rest as it was.
 use Prim.Native.Nat.{ℕ, _+_, _-_, _≤_}
-use mathlib.Core.Path.{_≡_, refl, ap, sym, subst, _∙_}
+use mathlib.Core.Path.{_≡_, refl, ap, _∙_}
 use mathlib.Core.List.{List}
 use mathlib.Core.Option.{Option}
 use native.Mathlib.Omega.{arith}
-use lib.ListN.{length, take, drop, length-append, length-take}
+use lib.ListN.{length, take, drop, length-take}
 use lib.Seq.{length-take-le, take-add, drop-at, take-take}
 use Rattle.runs.specs.Runs.{over}
-use Rattle.runs.proofs.Cases.{by-eqb, by-ltb}
+use Rattle.runs.proofs.Cases.{by-eqb}
 use Rattle.framing.specs.Segment.{Segment}
 use Rattle.framing.specs.declared.State.{State}
+use Rattle.framing.proofs.States.{count-within}
 use Rattle.pcs.specs.Frame as Frame
-use Rattle.pcs.specs.Rules.{Phase, hunting, inside, size, gathered, packedPart, cut}
-use Rattle.pcs.specs.Contract.{phaseOf, frontOf}
+use Rattle.pcs.specs.Rules.{Phase, hunting, size, gathered, held, packedPart, cut}
+use Rattle.pcs.specs.Contract.{modeOf, phaseOf, frontOf}
 use Rattle.pcs.specs.Steps.{Answers}
 use Rattle.pcs.specs.declared.Stepped.{Stepped}
+use Rattle.pcs.proofs.Cut.{takes}
 
 module _ (store : List ℕ) (at : ℕ) where
   -- the packed bytes of the first so many of a store
@@ -32,19 +34,9 @@ pub hunting-store : (store : List ℕ) (b : ℕ) → over (frontOf (cut hunting 
 hunting-store store b = by-eqb (λ (r : Phase × Option (Segment Frame.Message)). over (frontOf r) store ≡ store) b 253 (λ _. refl) (λ _. refl)
 
 -- the count stays within the size
-cut-short : (p : Phase) (b : ℕ) → length (gathered p) ≤ size → length (gathered (cut p b .0)) ≤ size
-cut-short hunting b h = by-eqb (λ (r : Phase × Option (Segment Frame.Message)). length (gathered (r .0)) ≤ size) b 253 (λ _. omega arith) (λ _. omega arith)
-cut-short (inside g) b h =
-    by-eqb P b 253 (λ _. omega arith) (λ _. by-eqb P b 254 (λ _. omega arith) (λ _.
-    by-ltb P (length g) size (λ l. simp length-append (omega arith)) (λ _. omega arith)))
-  where
-    P : Phase × Option (Segment Frame.Message) → Type 0
-    P r = length (gathered (r .0)) ≤ size
-
-phase-short : (s : State) (store : List ℕ) → s .count ≤ size → length (gathered (phaseOf s store)) ≤ size
-phase-short s store h =
-    by-eqb (λ (p : Phase). length (gathered p) ≤ size) (s .mode) 0 (λ _. omega arith) (λ _. simp length-take (omega arith))
+counted : (s : State) (store : List ℕ) → length (gathered (phaseOf s store)) ≤ s .count
+counted s store =
+    by-eqb (λ (p : Phase). length (gathered p) ≤ s .count) (s .mode) 0 (λ _. omega arith) (λ _. simp length-take (omega arith))
 
 pub next-count : (s : State) (store : List ℕ) (b : ℕ) (r : Stepped) → Answers s (cut (phaseOf s store) b) r → s .count ≤ size → r .state .count ≤ size
-next-count s store b r a h =
-    subst (λ (x : State). x .count ≤ size) (sym (a .state)) (cut-short (phaseOf s store) b (phase-short s store h))
+next-count s store b r a h = count-within modeOf gathered held phaseOf cut size counted (λ p b h. takes p b h .good) s (r .state) store b h (a .state)

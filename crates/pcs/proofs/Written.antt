@@ -6,8 +6,6 @@ use native.Mathlib.Omega.{arith}
 use lib.ListN.{length, take, drop, length-append}
 use lib.Seq.{sets, take-at}
 use Rattle.runs.proofs.Run.{sets-append, sets-over}
-use Rattle.framing.specs.Answer.{done, storedAt}
-use Rattle.framing.proofs.Stored.{stored-done}
 use Rattle.packing.specs.Packed.{packedLength}
 use Rattle.packing.proofs.Lengths.{length-packed}
 use Rattle.checksum.specs.Sum.{sumOf}
@@ -15,11 +13,6 @@ use Rattle.pcs.specs.Frame.{Message, frame}
 
 pub frame-length : (m : Message) → length (frame m) ≡ 11 + packedLength (length (m .payload))
 frame-length m = simp length-append (omega (arith, length-packed (m .payload)))
-
--- the frame, at the start of memory that holds it, is what a writer leaves
-pub written : (m : Message) (memory after : List ℕ) {n : ℕ} → length (frame m) ≡ n → n ≤ length memory → after ≡ sets memory 0 (frame m)
-    → (done n, after) ≡ storedAt (frame m) memory 0
-written m memory after {n} e h a = ap₂ (λ (k : ℕ) (l : List ℕ). (done k, l)) (sym e) a ∙ sym (stored-done (frame m) memory 0 (omega arith))
 
 -- the start mark and a header of 8, then n packed bytes p, then the sum of both and the end mark
 module _ (memory h p first second third : List ℕ) (n : ℕ) (eight : length h ≡ 8) (long : length p ≡ n) (room : 11 + n ≤ length memory)

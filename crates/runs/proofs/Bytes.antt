@@ -33,6 +33,9 @@ pub bytes-one : (b : ℕ) → b < 256 → Bytes (b ∷ [])
 bytes-one b h zero = h
 bytes-one b h (suc i) = lit< tt
 
+pub bytes-more : (u : List ℕ) (b : ℕ) → Bytes u → b < 256 → Bytes (u ++ (b ∷ []))
+bytes-more u b h y = bytes-append u (b ∷ []) h (bytes-one b y)
+
 pub bytes-two : (a b : ℕ) → a < 256 → b < 256 → Bytes (a ∷ b ∷ [])
 bytes-two a b h k zero = h
 bytes-two a b h k (suc i) = bytes-one b k i

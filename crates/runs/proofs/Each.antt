@@ -2,9 +2,11 @@
 use Prim.Native.Nat.{ℕ, suc, _+_, _*_, _≤_, _<_}
 use mathlib.Core.Path.{_≡_, refl, ap, sym, _∙_}
 use mathlib.Core.List.{List, [], _∷_, _++_, append-assoc, append-nil}
+use native.Mathlib.Numerals.{add-one}
 use native.Mathlib.Omega.{arith}
 use lib.Dec.{lit<}
-use lib.ListN.{length, drop, getD, length-append}
+use lib.ListN.{length, take, drop, getD, length-append, take-append-drop}
+use lib.Seq.{take-suc}
 use Rattle.runs.proofs.Bytes.{drop-next, every-append, bytes-append}
 use Rattle.runs.specs.Runs.{Bytes, each}
 
@@ -35,6 +37,16 @@ module _ (f : ℕ → List ℕ) where
       → length (each f (drop i l)) ≡ length (f (getD l i 0)) + length (each f (drop (i + 1) l))
   each-length l i h = ap length (each-next l i h) ∙ length-append (f (getD l i 0)) (each f (drop (i + 1) l))
 
+  -- of the first i elements, one more; with it they are no more than all
+  pub each-take : (l : List ℕ) (i : ℕ) → i < length l → each f (take (i + 1) l) ≡ each f (take i l) ++ f (getD l i 0)
+  each-take l i h = rw (add-one, take-suc l i 0) (each-snoc (take i l) (getD l i 0))
+
+  pub each-room : (l : List ℕ) (i : ℕ) → i < length l → length (each f (take i l)) + length (f (getD l i 0)) ≤ length (each f l)
+  each-room l i h =
+      let e : each f l ≡ each f (take (i + 1) l) ++ each f (drop (i + 1) l) =
+      ap (each f) (sym (take-append-drop (i + 1) l)) ∙ each-append (take (i + 1) l) (drop (i + 1) l) in
+      rw (e, each-take l i h, length-append, length-append) (omega arith)
+
   -- what holds of every byte that f gives holds of all
   pub each-all : (P : ℕ → Type 0) → P 0 → ((b i : ℕ) → P (getD (f b) i 0)) → (bytes : List ℕ) (i : ℕ) → P (getD (each f bytes) i 0)
   unfolding each
@@ -57,3 +69,9 @@ module _ (f : ℕ → List ℕ) where
   unfolding each
   each-bytes h [] y i = lit< tt
   each-bytes h (b ∷ bytes) y i = bytes-append (f b) (each f bytes) (h b (y 0)) (each-bytes h bytes (λ j. y (suc j))) i
+
+-- bytes as they are
+pub each-one : (l : List ℕ) → each (λ b. b ∷ []) l ≡ l
+unfolding each
+each-one [] = refl
+each-one (b ∷ l) = ap (λ (t : List ℕ). b ∷ t) (each-one l)

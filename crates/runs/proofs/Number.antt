@@ -1,17 +1,18 @@
 -- Laws of numbers as bytes, low byte first, over the size.
 use Prim.Native.Nat.{ℕ, zero, suc, _+_, _*_, _-_, _/_, _%_, _^_, _≤_, _<_, min}
 use mathlib.Core.Path.{_≡_, refl, ap, _∙_}
-use mathlib.Core.List.{List, [], _∷_}
+use mathlib.Core.List.{List, [], _∷_, _++_, append-nil}
 use native.Mathlib.Omega.{arith}
 use native.Mathlib.Nat.{pow-suc, pow-zero, one-le-pow, div-add-mod', div-lt-iff-lt-mul, add-zero, sub-zero, min-eq-left}
 use native.Mathlib.Decide.{decLe}
 use lib.Arith.{digits-lt, digits-div, digits-mod}
 use lib.Dec.{lit<}
-use lib.ListN.{length, getD, take, drop, set, length-take, length-drop}
+use lib.ListN.{length, getD, take, drop, set, length-take, length-drop, drop-of-length-le}
 use lib.Seq.{drop-cons, drop-length, getD-take, getD-drop, sets, set-out}
 use Rattle.runs.specs.Runs.{Bytes}
 use Rattle.runs.specs.Number.{number, bytesOf}
 use Rattle.runs.proofs.Bytes.{bytes-take, bytes-drop}
+use Rattle.runs.proofs.Run.{sets-over}
 
 pub number-lt : (m : ℕ) (bs : List ℕ) → Bytes bs → length bs ≤ m → number bs < 256 ^ m
 unfolding number
@@ -23,6 +24,12 @@ pub length-bytesOf : (size n : ℕ) → length (bytesOf size n) ≡ size
 unfolding bytesOf
 length-bytesOf zero n = refl
 length-bytesOf (suc size) n = ap suc (length-bytesOf size (n / 256))
+
+pub bytes-bytesOf : (size n : ℕ) → Bytes (bytesOf size n)
+unfolding bytesOf
+bytes-bytesOf zero n i = omega arith
+bytes-bytesOf (suc size) n zero = omega arith
+bytes-bytesOf (suc size) n (suc i) = bytes-bytesOf size (n / 256) i
 
 pub number-bytesOf : (size n : ℕ) → n < 256 ^ size → number (bytesOf size n) ≡ n
 unfolding number bytesOf
@@ -90,3 +97,10 @@ put-end out at size k n l = go (decLe size k)
     go : Dec (size ≤ k) → sets out (at + k) (bytesOf (size - k) n) ≡ out
     go (yes h) = let e : size - k ≡ 0 = omega arith in rw e
     go (no h) = sets-beyond (bytesOf (size - k) n) out (at + k) (omega arith)
+
+-- a number stored over as many bytes as it takes is all that stands there
+pub number-put : (width n : ℕ) (memory after : List ℕ) → length memory ≡ width → after ≡ sets memory 0 (bytesOf width n) → after ≡ bytesOf width n
+number-put width n memory after l e =
+    let k = length-bytesOf width n in
+    e ∙ sets-over (bytesOf width n) memory (omega arith)
+    ∙ ap (λ (x : List ℕ). bytesOf width n ++ x) (drop-of-length-le memory {i = length (bytesOf width n)} (omega arith)) ∙ append-nil (bytesOf width n)

@@ -91,6 +91,10 @@ module _ {A : Type 0} where
         → Run d at whole (n + 1) rest (set out (at + n) v)
     run-one {n} {v} {a} {after} {rest} {out} r e q = run-part (a ∷ []) r e refl (ap (set out (at + n)) q)
 
+    -- the part that is next fits behind what is stored
+    pub run-room : {n : ℕ} {out : List A} (v rest : List A) → Run d at whole n (v ++ rest) out → at + n + length v ≤ length out
+    run-room v rest r = omega (arith, r, length-append v rest)
+
     pub run-end : {n : ℕ} {rest out : List A} → Run d at whole n rest out → rest ≡ [] → out ≡ sets d at whole
     run-end {n} {rest} {out} r e =
         r .out-is ∙ ap (sets d at) (sym (append-nil (r .so-far)) ∙ ap (λ (l : List A). r .so-far ++ l) (sym e) ∙ r .split)

@@ -3,7 +3,7 @@ use mathlib.Core.Path.{_∙_}
 use lib.ListN.{length-set}
 use Rattle.escape.specs.Code.{hide}
 use Rattle.escape.specs.Expansion.{expansion}
-use Rattle.expansion.proofs.Stored.{run-room}
+use Rattle.runs.proofs.Run.{run-room}
 use Rattle.expansion.proofs.Laid.{laid-mark, laid-header, laid-data, laid-check, laid-frame}
 use borrow.Author.Needs.{needs}
 use Rattle.expansion.proofs.put_frame.Statement.{statement}
@@ -16,16 +16,19 @@ put-hidden-requires : tie.Need-put-hidden-requires
 put-hidden-requires c κs =
     let s = c .before .before .before .before .before in
     let a = s .args in
-    run-room (hide expansion (a .header .now)) _ (laid-mark (a .header .now) (a .«data» .now) (a .trailer .now) (a .out .now) (s .pre))
+    omega (arith, run-room (hide expansion (a .header .now)) _ (laid-mark (a .header .now) (a .«data» .now) (a .trailer .now) (a .out .now) (s .pre)))
 
 put-hidden-requires-2 : tie.Need-put-hidden-requires-2
 put-hidden-requires-2 c κs =
     let p = c .before .before .before in
     let s = p .before .before .before .before .before .before in
     let a = s .args in
-    run-room (hide expansion (a .«data» .now)) _
-    (laid-header (a .header .now) (a .«data» .now) (a .trailer .now) (a .out .now) (s .pre) (p .put-hidden .result) (p .put-hidden .last .1 .0)
-    (p .put-hidden .ensures .0) (p .put-hidden .ensures .1))
+    omega (
+      arith,
+      run-room (hide expansion (a .«data» .now)) _
+          (laid-header (a .header .now) (a .«data» .now) (a .trailer .now) (a .out .now) (s .pre) (p .put-hidden .result) (p .put-hidden .last .1 .0)
+          (p .put-hidden .ensures .0) (p .put-hidden .ensures .1)),
+    )
 
 put-hidden-requires-3 : tie.Need-put-hidden-requires-3
 put-hidden-requires-3 c κs =
@@ -33,10 +36,13 @@ put-hidden-requires-3 c κs =
     let p = q .before .before .before .before in
     let s = p .before .before .before .before .before .before in
     let a = s .args in
-    run-room (hide expansion (a .trailer .now)) _
-    (laid-data (a .header .now) (a .«data» .now) (a .trailer .now) (a .out .now) (s .pre) (p .put-hidden .result) (p .put-hidden .last .1 .0)
-    (p .put-hidden .ensures .0) (p .put-hidden .ensures .1) (q .put-hidden2 .result) (q .put-hidden2 .last .1 .0) (q .put-hidden2 .ensures .0)
-    (q .put-hidden2 .ensures .1))
+    omega (
+      arith,
+      run-room (hide expansion (a .trailer .now)) _
+          (laid-data (a .header .now) (a .«data» .now) (a .trailer .now) (a .out .now) (s .pre) (p .put-hidden .result) (p .put-hidden .last .1 .0)
+          (p .put-hidden .ensures .0) (p .put-hidden .ensures .1) (q .put-hidden2 .result) (q .put-hidden2 .last .1 .0) (q .put-hidden2 .ensures .0)
+          (q .put-hidden2 .ensures .1)),
+    )
 
 slice-write-out-2 : tie.Need-slice-write-out-2
 slice-write-out-2 c =

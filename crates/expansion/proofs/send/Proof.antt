@@ -1,9 +1,8 @@
 use native.Mathlib.Omega.{arith}
 use mathlib.Core.Path.{sym}
 use mathlib.Core.List.{_++_}
-use Rattle.framing.proofs.Stored.{stored-refused}
 use Rattle.expansion.specs.Frame.{enclose}
-use Rattle.framing.proofs.Stored.{stored-so}
+use Rattle.framing.proofs.Stored.{stored-so, stored-refused}
 use borrow.Author.Needs.{needs}
 use Rattle.expansion.proofs.send.Statement.{statement}
 use Rattle.expansion.proofs.send.Tie as tie

@@ -3,11 +3,11 @@ use mathlib.Core.Path.{_≡_, refl, ap, sym, _∙_, subst}
 use mathlib.Core.List.{List, _∷_, _++_}
 use lib.ListN.{length}
 use Rattle.runs.specs.Number.{bytesOf}
+use Rattle.runs.proofs.Number.{number-put}
 use Rattle.framing.specs.Answer.{storedAt}
 use Rattle.expansion.specs.Frame.{Message, body, trailer, enclose}
 use Rattle.expansion.specs.Rules.{size}
 use Rattle.expansion.proofs.Judge.{content-fits}
-use Rattle.expansion.proofs.Stored.{number-put}
 use borrow.Author.Needs.{needs}
 use Rattle.expansion.proofs.write.Statement.{statement}
 use Rattle.expansion.proofs.write.Tie as tie

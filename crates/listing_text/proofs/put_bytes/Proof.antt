@@ -3,7 +3,8 @@ use mathlib.Core.List.{[], _∷_}
 use native.Mathlib.Omega.{arith}
 use denote.Ref.{now}
 use lib.ListN.{length}
-use Rattle.listing_text.proofs.Puts.{puts-length, each-one, Emitted, emitted-none, emitted-room, emitted-next, emitted-all}
+use Rattle.runs.proofs.Each.{each-one}
+use Rattle.listing_text.proofs.Puts.{puts-length, Emitted, emitted-none, emitted-room, emitted-next, emitted-all}
 use Rattle.listing_text.proofs.put_bytes.Statement.{statement}
 use Rattle.listing_text.proofs.put_bytes.Tie as tie
 

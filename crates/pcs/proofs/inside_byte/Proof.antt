@@ -2,7 +2,7 @@ use mathlib.Core.Path.{refl}
 use lib.ListN.{take}
 use borrow.Author.Tests.{eq-eqb, ne-eqb}
 use borrow.Author.Needs.{needs}
-use Rattle.pcs.proofs.Judge.{judge-quiet}
+use Rattle.pcs.proofs.Cut.{judge-noise}
 use Rattle.pcs.proofs.inside_byte.Statement.{statement}
 use Rattle.pcs.proofs.inside_byte.Tie as tie
 
@@ -30,7 +30,7 @@ returns-2 c =
     let n = ne-eqb _ _ (c .before .before .before .before .before .before .if1 .left) in
     let t = eq-eqb _ _ (c .before .before .before .before .before .if2 .taken) in
     let j = c .before .before .before .judge-frame .ensures in
-    (simp (n, t) (record { tells = j .0 _; state = simp (judge-quiet) (c .close .ensures) }), simp (n, t) (j .1 _))
+    (simp (n, t) (record { tells = j .0 _; state = simp (judge-noise) (c .close .ensures) }), simp (n, t) (j .1 _))
 
 gather-byte-requires : tie.Need-gather-byte-requires
 gather-byte-requires c κs = search needs

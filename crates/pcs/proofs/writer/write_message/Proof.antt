@@ -3,11 +3,11 @@ use mathlib.Core.Path.{sym, ap, _∙_}
 use native.Mathlib.Omega.{arith}
 use lib.ListN.{length}
 use borrow.Author.Needs.{needs}
-use Rattle.framing.proofs.Stored.{stored-refused}
+use Rattle.framing.proofs.Stored.{stored-so, stored-refused}
 use Rattle.pcs.specs.Frame.{frame}
 use Rattle.pcs.specs.Steps.{withData}
 use Rattle.pcs.proofs.Allowed.{kind-most, sendable}
-use Rattle.pcs.proofs.Written.{frame-length, written}
+use Rattle.pcs.proofs.Written.{frame-length}
 use Rattle.pcs.proofs.writer.write_message.Statement.{statement}
 use Rattle.pcs.proofs.writer.write_message.Tie as tie
 
@@ -35,7 +35,7 @@ returns c =
     let m = withData (a .message) (a .«data» .now) in
     let o = sym (c .before .before .before .before .before .before .before .may-send .ensures) ∙ c .before .before .before .before .before .before .if1 .taken in
     let n = frame-length m ∙ ap (λ (k : ℕ). 11 + k) (sym (c .before .before .before .before .before .packed-length .ensures)) in
-    rw o (written m _ _ n (c .before .before .before .before .if2 .taken) (c .before .before .put-frame .ensures))
+    rw o (stored-so (frame m) _ 0 _ _ (sym n) (omega (arith, c .before .before .before .before .if2 .taken)) (c .before .before .put-frame .ensures))
 
 returns-2 : tie.Need-returns-2
 returns-2 c =
