@@ -70,7 +70,7 @@ judge-takes g wire h e =
     (λ m t. closes reached g wire [] (accepted m) (ap enclose (t .0) ∙ e) (omega arith)
     (record {
       may = t .1 h;
-      read = λ store front room. message-back m store (t .1 h) (rw (t .0) front) (rw (t .0) (omega arith));
+      read = λ store front. message-back m store (t .1 h) (rw (t .0) front);
       hunts = refl;
     }))
 

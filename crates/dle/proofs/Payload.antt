@@ -1,15 +1,15 @@
 -- The payload of a message and the gathered bytes of a frame: the end of a frame accepts exactly the payloads of messages that may be sent.
-use Prim.Native.Nat.{ℕ, _+_, _-_, _≤_}
-use mathlib.Core.Path.{_≡_, refl, ap, sym, _∙_}
+use Prim.Native.Nat.{ℕ, _-_, _≤_}
+use mathlib.Core.Path.{_≡_, refl, ap, sym, _∙_, subst}
 use mathlib.Core.Bool.{true, _&&_}
-use mathlib.Core.List.{List, [], _∷_, _++_}
+use mathlib.Core.List.{List, [], _∷_, append-nil}
 use native.Mathlib.Omega.{arith}
-use lib.ListN.{length, getD, take, drop, length-drop, take-append-drop}
-use lib.Seq.{take-append-seam}
+use lib.ListN.{length, getD, take, drop, length-drop}
 use lib.Dec.{leb}
 use borrow.Author.Tests.{eq-eqb, ne-eqb, le-ltb, le-leb, leb-true}
 use Rattle.runs.proofs.Cases.{and-both}
 use Rattle.framing.specs.Segment.{accepted}
+use Rattle.framing.proofs.Byte.{data-stands}
 use Rattle.dle.specs.Frame.{Message, content, error, ok, payload}
 use Rattle.dle.specs.Rules.{size, judge}
 use Rattle.dle.specs.Contract.{numbersOf, messageOf}
@@ -53,17 +53,9 @@ judge-payload (content s n d) wire h =
     rw (le-ltb k 4 (omega arith), ne-eqb (length d) 0 (omega arith), eq-eqb (length d) (k - 3) (omega arith))
 
 -- a message is read back from its numbers and a store that begins with its payload
-pub message-back : (m : Message) (store : List ℕ) → ok m ≡ true → take (length (payload m)) store ≡ payload m → length (payload m) ≤ length store
-    → messageOf store (numbersOf m) ≡ m
-message-back (error s n e) store h t l = refl
-message-back (content s n d) store h t l =
-    rw (ne-eqb (length d) 0 (omega (arith, ok-length (length d) h .0)), le-leb (3 + length d) (length store) (omega arith), data-back)
-  where
-    rest : List ℕ
-    rest = drop (length (payload (content s n d))) store
-
-    whole : store ≡ payload (content s n d) ++ rest
-    whole = sym (take-append-drop (length (payload (content s n d))) store) ∙ ap (λ (x : List ℕ). x ++ rest) t
-
-    data-back : take (length d) (drop 3 store) ≡ d
-    data-back = ap (λ (x : List ℕ). take (length d) (drop 3 x)) whole ∙ take-append-seam d rest
+pub message-back : (m : Message) (store : List ℕ) → ok m ≡ true → take (length (payload m)) store ≡ payload m → messageOf store (numbersOf m) ≡ m
+message-back (error s n e) store h t = refl
+message-back (content s n d) store h t =
+    rw (ne-eqb (length d) 0 (omega (arith, ok-length (length d) h .0)))
+    (ap (content s n) (data-stands (s ∷ n ∷ length d ∷ []) d [] store
+    (subst (λ (x : List ℕ). take (length (s ∷ n ∷ length d ∷ x)) store ≡ s ∷ n ∷ length d ∷ x) (sym (append-nil d)) t)))

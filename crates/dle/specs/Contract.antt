@@ -1,11 +1,11 @@
 -- What the functions of the DLE link answer and leave, for every input.
-use Prim.Native.Nat.{ℕ, _+_}
+use Prim.Native.Nat.{ℕ}
 use mathlib.Core.Bool.{cond}
-use mathlib.Core.List.{List, []}
-use lib.ListN.{length, take, drop}
-use lib.Dec.{leb, eqb}
+use mathlib.Core.List.{List}
+use lib.ListN.{length, take}
+use lib.Dec.{eqb}
 use Rattle.framing.specs.State.{freshState, knownState, stateAfter}
-use Rattle.framing.specs.Link.{Link, Lent, Told, nothing, numbers, number}
+use Rattle.framing.specs.Link.{Link, Lent, Told, nothing, numbers, number, dataAt}
 use Rattle.framing.specs.declared.State.{State}
 use Rattle.dle.specs.Frame.{content, error, Typed, ok, frame}
 use Rattle.dle.specs.Frame as Frame
@@ -30,9 +30,9 @@ abbrev pub numbersOf : Frame.Message → Message
 numbersOf (content s n d) = record { sequence = s; node = n; length = length d; error = 0 }
 numbersOf (error s n e) = record { sequence = s; node = n; length = 0; error = e }
 
--- the data of a message: the part of the store from place 3, or nothing where that does not lie in the store
+-- the data of a message: the part of the store from place 3
 abbrev pub dataOf : List ℕ → Message → List ℕ
-dataOf store m = cond (leb (3 + m .length) (length store)) (take (m .length) (drop 3 store)) []
+dataOf store m = dataAt 3 (m .length) store
 
 -- the message that a caller has of its numbers and the store
 abbrev pub messageOf : List ℕ → Message → Frame.Message

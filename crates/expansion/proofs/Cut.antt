@@ -1,29 +1,27 @@
 -- What a byte does by the rules.
-use Prim.Native.Nat.{ℕ, _+_, _^_, _≤_, _<_}
+use Prim.Native.Nat.{ℕ, _^_, _≤_, _<_}
 use mathlib.Core.Path.{_≡_, refl, ap, sym, _∙_, subst}
 use mathlib.Core.Bool.{Bool, true, false}
-use mathlib.Core.List.{List, [], _∷_, _++_, append-nil, append-assoc}
+use mathlib.Core.List.{List, [], _∷_, _++_, append-nil}
 use mathlib.Core.Option.{Option, some}
 use native.Mathlib.Omega.{arith}
-use lib.ListN.{length, take, drop, length-append, take-append-drop}
-use lib.Seq.{take-append-seam}
-use borrow.Author.Tests.{le-leb}
+use lib.ListN.{length, take, length-append}
 use lib.Dec.{lit<}
 use Rattle.runs.specs.Runs.{Bytes}
 use Rattle.runs.proofs.Bytes.{bytes-more}
 use Rattle.runs.proofs.Cases.{by-test, by-eqb, by-ltb}
 use Rattle.framing.specs.Segment.{Segment, refused, accepted, noiseAfter}
-use Rattle.framing.proofs.Byte.{Reached, Takes, goes-on, restarts, closes, Ends, by-end, ends-quiet}
+use Rattle.framing.proofs.Byte.{data-stands, Reached, Takes, goes-on, restarts, closes, Ends, by-end, ends-quiet}
 use Rattle.escape.specs.Code.{Meaning, byte, waits, start, end, wrong, meaning, hide}
 use Rattle.escape.specs.Expansion.{hideByte, expansion}
 use Rattle.escape.proofs.Lawful.{hide-more, hide-short}
 use Rattle.escape.proofs.Expansion.{expansion-lawful}
 use Rattle.expansion.specs.Frame.{Message, ok, body, trailer, enclose}
 use Rattle.expansion.specs.Rules.{Phase, hunting, inside, size, gathered, held, checkRight, fieldsOk, judge, gather, act, cut}
-use Rattle.expansion.specs.Contract.{numbersOf, dataOf, messageOf, link}
+use Rattle.expansion.specs.Contract.{numbersOf, messageOf, link}
 use Rattle.runs.proofs.Each.{each-nil}
 use Rattle.expansion.proofs.Hidden.{Meant, meant}
-use Rattle.expansion.proofs.Judge.{content, content-length, content-in, ok-in}
+use Rattle.expansion.proofs.Judge.{content, content-in, ok-in}
 
 -- what is gathered are bytes, and no more than the store holds
 abbrev pub Good : Phase → Type 0
@@ -72,21 +70,10 @@ pub judge-noise : (g wire : List ℕ) (n : ℕ) → noiseAfter (some (judge g wi
 judge-noise g wire n = ends-quiet (Judged g) wire (judge g wire) (judge-ends g wire) n
 
 -- a message whose content stands at the start of the store is read back from its numbers
-read-back : (m : Message) (store : List ℕ) → take (length (content m)) store ≡ content m → length (content m) ≤ length store
-    → messageOf store (numbersOf m) ≡ m
-read-back m store stands room =
-    let here : dataOf store (numbersOf m) ≡ m .payload =
-    rw (le-leb (4 + length (m .payload)) (length store) (omega (arith, content-length m)))
-    (ap (λ (x : List ℕ). take (length (m .payload)) (drop 4 x)) whole
-    ∙ ap (take (length (m .payload))) (append-assoc (m .payload) (trailer (body m)) rest)
-    ∙ take-append-seam (m .payload) (trailer (body m) ++ rest)) in
+read-back : (m : Message) (store : List ℕ) → take (length (content m)) store ≡ content m → messageOf store (numbersOf m) ≡ m
+read-back m store stands =
+    let here = data-stands (m .id ∷ m .kind ∷ m .repeat ∷ m .address ∷ []) (m .payload) (trailer (body m)) store stands in
     λ i. record { id = m .id; kind = m .kind; repeat = m .repeat; address = m .address; payload = here i }
-  where
-    rest : List ℕ
-    rest = drop (length (content m)) store
-
-    whole : store ≡ content m ++ rest
-    whole = sym (take-append-drop (length (content m)) store) ∙ ap (λ (x : List ℕ). x ++ rest) stands
 
 judge-takes : (g wire : List ℕ) → Good (inside false g) → enclose g ≡ wire → Next g wire (hunting, some (judge g wire))
 judge-takes g wire h e =
@@ -95,8 +82,7 @@ judge-takes g wire h e =
     (λ m t. closes reached g wire [] (accepted m) (ap enclose (t h .0) ∙ e) (omega arith)
     (record {
       may = t h .1;
-      read = λ store stands room.
-          read-back m store (subst (λ (x : List ℕ). take (length x) store ≡ x) (sym (t h .0)) stands) (omega (arith, h .1, ap length (t h .0)));
+      read = λ store stands. read-back m store (subst (λ (x : List ℕ). take (length x) store ≡ x) (sym (t h .0)) stands);
       hunts = refl;
     }))
 

@@ -1,11 +1,11 @@
 -- What the functions of the expansion link answer and leave, for every input.
-use Prim.Native.Nat.{ℕ, _+_}
+use Prim.Native.Nat.{ℕ}
 use mathlib.Core.Bool.{cond}
-use mathlib.Core.List.{List, []}
-use lib.ListN.{length, take, drop}
-use lib.Dec.{leb, eqb}
+use mathlib.Core.List.{List}
+use lib.ListN.{length, take}
+use lib.Dec.{eqb}
 use Rattle.framing.specs.State.{freshState, knownState, stateAfter}
-use Rattle.framing.specs.Link.{Link, Lent, Told, nothing, numbers, number}
+use Rattle.framing.specs.Link.{Link, Lent, Told, nothing, numbers, number, dataAt}
 use Rattle.framing.specs.declared.State.{State}
 use Rattle.expansion.specs.Frame.{Typed, ok, frame}
 use Rattle.expansion.specs.Frame as Frame
@@ -28,9 +28,9 @@ phaseOf s store = cond (eqb (s .mode) 0) hunting (inside (eqb (s .mode) 2) (take
 abbrev pub numbersOf : Frame.Message → Message
 numbersOf m = record { id = m .id; kind = m .kind; repeat = m .repeat; address = m .address; length = length (m .payload) }
 
--- the data of a message: the part of the store from place 4, or nothing where that does not lie in the store
+-- the data of a message: the part of the store from place 4
 abbrev pub dataOf : List ℕ → Message → List ℕ
-dataOf store m = cond (leb (4 + m .length) (length store)) (take (m .length) (drop 4 store)) []
+dataOf store m = dataAt 4 (m .length) store
 
 -- the message that a caller has of its numbers and the store
 abbrev pub messageOf : List ℕ → Message → Frame.Message

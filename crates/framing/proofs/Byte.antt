@@ -1,15 +1,34 @@
 -- What a byte does by a link's rules, in a phase that is reached. Each link shows it, by cases, once.
-use Prim.Native.Nat.{ℕ, _^_, _≤_, _<_}
-use mathlib.Core.Path.{_≡_, refl, sym, _∙_, subst}
+use Prim.Native.Nat.{ℕ, _+_, _^_, _≤_, _<_}
+use mathlib.Core.Path.{_≡_, refl, ap, sym, _∙_, subst}
 use mathlib.Core.Bool.{true}
-use mathlib.Core.List.{List, [], _++_, append-nil}
+use mathlib.Core.List.{List, [], _++_, append-nil, append-assoc}
 use mathlib.Core.Option.{Option, none, some}
-use lib.ListN.{length, take}
-use lib.Seq.{take-append-seam}
+use native.Mathlib.Omega.{arith}
+use lib.ListN.{length, take, drop, length-append, take-append-drop}
+use lib.Seq.{take-append-seam, drop-at}
+use borrow.Author.Tests.{le-leb}
 use Rattle.runs.specs.Runs.{over}
 use Rattle.framing.specs.Segment.{Segment, noise, refused, accepted, wireOf, noiseAfter}
-use Rattle.framing.specs.Link.{Link}
+use Rattle.framing.specs.Link.{Link, dataAt}
 use Rattle.framing.proofs.Segments.{wireOpt, Accepts}
+
+-- data that stand in a store, behind a front and before a tail, are read there
+pub data-stands : (front run tail store : List ℕ) → take (length (front ++ (run ++ tail))) store ≡ front ++ (run ++ tail)
+    → dataAt (length front) (length run) store ≡ run
+data-stands front run tail store e =
+    rw (le-leb (length front + length run) (length store) (omega (arith, ap length whole, length-append front (run ++ (tail ++ rest)), length-append run (tail ++ rest))))
+    (ap (λ (x : List ℕ). take (length run) (drop (length front) x)) whole
+    ∙ ap (take (length run)) (drop-at front (run ++ (tail ++ rest)) (length front) refl)
+    ∙ take-append-seam run (tail ++ rest))
+  where
+    rest : List ℕ
+    rest = drop (length (front ++ (run ++ tail))) store
+
+    whole : store ≡ front ++ (run ++ (tail ++ rest))
+    whole =
+        sym (take-append-drop (length (front ++ (run ++ tail))) store) ∙ ap (λ (x : List ℕ). x ++ rest) e
+        ∙ append-assoc front (run ++ tail) rest ∙ ap (λ (x : List ℕ). front ++ x) (append-assoc run tail rest)
 
 -- Good is what holds of each phase that is reached: the store has room for what is gathered, and few wire bytes are held; at first none are
 pub record Reached (L : Link) : Type 1 where
@@ -24,7 +43,7 @@ pub record Reached (L : Link) : Type 1 where
 -- the gathered bytes g stood and now f stands
 pub record Taken (L : Link) (g f : List ℕ) (q : L .Phase) (m : L .Message) : Type 0 where
   pub may : L .ok m ≡ true
-  pub read : (store : List ℕ) → take (length g) store ≡ g → L .size ≤ length store → L .messageOf (over f store) (L .numbersOf m) ≡ m
+  pub read : (store : List ℕ) → take (length g) store ≡ g → L .messageOf (over f store) (L .numbersOf m) ≡ m
   pub hunts : q ≡ L .hunting
 
 -- a byte that leads to r, where g was gathered, w is what was held with the byte, and f then stands at the start of the store

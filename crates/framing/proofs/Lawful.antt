@@ -144,7 +144,7 @@ module _ (L : Link) (laws : Lawful L) where
         subst
         (λ (p : L .Phase). (heardIn L (over (L .front p b) (c .1)) (told L (eventOf (L .cut p b .1))) ≡ step (L .cut) a b .1)
         × Stands (L .stateAfter (c .0) (L .cut p b .0) (L .cut p b .1), over (L .front p b) (c .1)) (step (L .cut) a b .0)) (sym (r .phase)) (
-          view-event (c .0, over (L .front (a .phase) b) (c .1)) (L .cut (a .phase) b .1) (accepted-is _ (a .phase) b y (r .good) (λ m t. t .read (c .1) (r .store) (r .room))),
+          view-event (c .0, over (L .front (a .phase) b) (c .1)) (L .cut (a .phase) b .1) (accepted-is _ (a .phase) b y (r .good) (λ m t. t .read (c .1) (r .store))),
           stands-of (L .cut (a .phase) b .0) (noiseAfter (L .cut (a .phase) b .1) (a .noise))
               (L .stateAfter (c .0) (L .cut (a .phase) b .0) (L .cut (a .phase) b .1)) (over (L .front (a .phase) b) (c .1)) (r .next b y)
               (good-next (a .phase) b y (r .good)) (laws .takes (a .phase) b y (r .good) .stands (c .1))

@@ -1,10 +1,10 @@
 -- A link: its messages and frames, the rules of its receiver, and how a state and a store stand for a phase of the rules. From these, what a
 -- call of the receiver does for every state, store and piece.
-use Prim.Native.Nat.{ℕ}
+use Prim.Native.Nat.{ℕ, _+_}
 use mathlib.Core.Bool.{Bool, true, false, cond}
-use mathlib.Core.List.{List}
+use mathlib.Core.List.{List, []}
 use mathlib.Core.Option.{Option, none, some}
-use lib.ListN.{length}
+use lib.ListN.{length, take, drop}
 use lib.Dec.{leb}
 use Rattle.runs.specs.Runs.{over}
 use Rattle.framing.specs.Answer.{Outcome}
@@ -50,6 +50,10 @@ abbrev pub isEvent : {N : Type 0} → Told N → Bool
 isEvent nothing = false
 isEvent (numbers v) = true
 isEvent (number n) = true
+
+-- the data of a message in a store: n bytes from place k on, or nothing where they do not lie in the store
+abbrev pub dataAt : ℕ → ℕ → List ℕ → List ℕ
+dataAt k n store = cond (leb (k + n) (length store)) (take n (drop k store)) []
 
 module _ (L : Link) where
   -- a call of the link's writer: what it answers and leaves

@@ -1,16 +1,15 @@
 -- The bytes of an event's line: none without an event, and never more than the program's memory for a line holds.
 use Prim.Native.Nat.{ℕ, _+_, _*_, _≤_}
 use mathlib.Core.Path.{_≡_, refl, ap, sym, _∙_, subst}
-use mathlib.Core.Bool.{cond}
 use mathlib.Core.List.{List, [], _∷_}
 use mathlib.Core.Option.{Option, none, some}
 use native.Mathlib.Omega.{arith}
-use lib.Dec.{leb}
-use lib.ListN.{length, take, drop, length-append, length-take, length-drop}
+use lib.ListN.{length, length-append, length-take, length-drop}
 use lib.Seq.{length-sets, length-take-le}
 use Rattle.io.specs.Counts.{Counts}
 use Rattle.runs.proofs.Cases.{by-leb, by-eqb}
 use Rattle.framing.specs.Answer.{Outcome, done, storedAt}
+use Rattle.framing.specs.Link.{dataAt}
 use Rattle.framing.proofs.Stored.{stored-done}
 use Rattle.pcs.specs.Contract as Pcs
 use Rattle.mdu.specs.Contract as Mdu
@@ -54,9 +53,9 @@ dle-line store m =
     (λ _. refl)
 
 -- the part of a store that holds a message's data is no longer than the store
-part-short : (least n k : ℕ) (store : List ℕ) → length (cond (leb least (length store)) (take n (drop k store)) []) ≤ length store
-part-short least n k store =
-    by-leb (λ (l : List ℕ). length l ≤ length store) least (length store) (λ _. simp (length-take, length-drop) (omega arith)) (λ _. omega arith)
+data-short : (k n : ℕ) (store : List ℕ) → length (dataAt k n store) ≤ length store
+data-short k n store =
+    by-leb (λ (l : List ℕ). length l ≤ length store) (k + n) (length store) (λ _. simp (length-take, length-drop) (omega arith)) (λ _. omega arith)
 
 shown-most : (bytes : List ℕ) → length (shown bytes) ≤ 1 + 2 * length bytes
 shown-most [] = omega (arith, length-none [] refl)
@@ -73,10 +72,10 @@ refused-fits n = simp length-append (omega (arith, decimal-few n))
 pub event-fits : (store : List ℕ) (e : Event) → length store ≤ 1180 → length (textOf (lineIn store e)) ≤ 2411
 unfolding textOf
 event-fits store event.Nothing h = omega arith
-event-fits store (event.Pcs m) h = message-fits _ (Pcs.dataOf store m) (omega (arith, part-short (m .length) (m .length) 0 store))
-event-fits store (event.Mdu m) h = message-fits _ (Mdu.dataOf store m) (omega (arith, part-short (6 + m .length) (m .length) 6 store))
-event-fits store (event.Dle m) h = rw (dle-line store m) (message-fits _ (Dle.dataOf store m) (omega (arith, part-short (3 + m .length) (m .length) 3 store)))
-event-fits store (event.Expansion m) h = message-fits _ (Expansion.dataOf store m) (omega (arith, part-short (4 + m .length) (m .length) 4 store))
+event-fits store (event.Pcs m) h = message-fits _ (Pcs.dataOf store m) (omega (arith, data-short 0 (m .length) store))
+event-fits store (event.Mdu m) h = message-fits _ (Mdu.dataOf store m) (omega (arith, data-short 6 (m .length) store))
+event-fits store (event.Dle m) h = rw (dle-line store m) (message-fits _ (Dle.dataOf store m) (omega (arith, data-short 3 (m .length) store)))
+event-fits store (event.Expansion m) h = message-fits _ (Expansion.dataOf store m) (omega (arith, data-short 4 (m .length) store))
 event-fits store (event.Refused n) h = refused-fits n
 
 -- what a call that stores a run tells of its length, for the caller that prints it

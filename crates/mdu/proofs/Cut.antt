@@ -2,10 +2,10 @@
 use Prim.Native.Nat.{ℕ, suc, _+_, _*_, _/_, _%_, _≤_, _<_}
 use mathlib.Core.Path.{_≡_, refl, ap, sym, _∙_, subst}
 use mathlib.Core.Bool.{Bool, true, false, cond, _&&_, not}
-use mathlib.Core.List.{List, [], _∷_, _++_, append-assoc}
+use mathlib.Core.List.{List, [], _∷_, _++_}
 use mathlib.Core.Option.{Option, none, some}
 use native.Mathlib.Omega.{arith}
-use lib.ListN.{length, getD, take, drop, length-append, List·getD-append}
+use lib.ListN.{length, getD, take, length-append, List·getD-append}
 use lib.Seq.{take-append-seam, length-take-le, getD-append-add}
 use lib.Dec.{eqb}
 use borrow.Author.Tests.{le-leb, eqb-true, eqb-false, not-true}
@@ -13,7 +13,7 @@ use Rattle.runs.specs.Runs.{Bytes, over}
 use Rattle.runs.proofs.Bytes.{bytes-one, bytes-more}
 use Rattle.runs.proofs.Cases.{by-test, by-eqb, and-both}
 use Rattle.framing.specs.Segment.{Segment, noise, refused, accepted}
-use Rattle.framing.proofs.Byte.{Takes, goes-on, closes}
+use Rattle.framing.proofs.Byte.{data-stands, Takes, goes-on, closes}
 use Rattle.checksum.specs.Crc.{crc16Of}
 use Rattle.mdu.specs.Frame.{Message, lengthOk, headerSum, header, trailer, frame}
 use Rattle.mdu.specs.Rules.{Phase, hunting, head, tail, size, gathered, held, stated, sentCheck, enter, finish, cut}
@@ -44,10 +44,8 @@ enter-takes g w l y e =
 read-back : (m : Message) (w store : List ℕ) → frame m ≡ w → messageOf (over w store) (numbersOf m) ≡ m
 read-back m w store e =
     ap (λ (x : List ℕ). messageOf (over x store) (numbersOf m)) (sym e)
-    ∙ rw (le-leb (6 + length (m .body)) (length (over (frame m) store)) (simp length-append (omega arith)))
-    (ap (λ (x : List ℕ). record { address = m .address; body = x })
-    (ap (take (length (m .body))) (append-assoc (m .body) (trailer (crc16Of (m .body))) (drop (length (frame m)) store))
-    ∙ take-append-seam (m .body) (trailer (crc16Of (m .body)) ++ drop (length (frame m)) store)))
+    ∙ ap (λ (x : List ℕ). record { address = m .address; body = x })
+    (data-stands (header (length (m .body)) (m .address)) (m .body) (trailer (crc16Of (m .body))) (over (frame m) store) (take-append-seam (frame m) _))
 
 -- the last byte of a frame, with its header and the k + 2 bytes e behind it
 finish-takes : (k : ℕ) (g w : List ℕ) (a : ℕ) (e : List ℕ) → w ≡ header k a ++ e → length e ≡ k + 2 → 1 ≤ a → lengthOk k ≡ true → Bytes e
@@ -57,7 +55,7 @@ finish-takes k g w a e i l low allowed y =
     (by-eqb (λ (s : Segment Message). Next g whole (hunting, some s)) (sentCheck k whole) (crc16Of body)
     (λ c. let f = framed (sym c ∙ numbers) in
     closes reached g whole whole (accepted (record { address = a; body = body })) f fits
-    (record { may = rw (length-take-le k e (omega arith), allowed, le-leb 1 a low); read = λ store _ _. read-back _ whole store f; hunts = refl }))
+    (record { may = rw (length-take-le k e (omega arith), allowed, le-leb 1 a low); read = λ store _. read-back _ whole store f; hunts = refl }))
     (λ _. closes reached g whole whole (refused 8 whole) refl fits tt))
   where
     whole : List ℕ

@@ -3,11 +3,11 @@ use Prim.Native.Nat.{ℕ, _+_}
 use mathlib.Core.Bool.{Bool, true, cond, _&&_}
 use mathlib.Core.List.{List, [], _∷_, _++_}
 use mathlib.Core.Option.{Option}
-use lib.ListN.{length, take, drop}
+use lib.ListN.{length, take}
 use lib.Dec.{leb, ltb, eqb}
 use Rattle.framing.specs.Segment.{Segment}
 use Rattle.framing.specs.State as Shared
-use Rattle.framing.specs.Link.{Link, Lent, Told, nothing, numbers, number}
+use Rattle.framing.specs.Link.{Link, Lent, Told, nothing, numbers, number, dataAt}
 use Rattle.mdu.specs.Frame.{Typed, lengthOk, ok, frame}
 use Rattle.mdu.specs.Frame as Frame
 use Rattle.mdu.specs.Rules.{Phase, hunting, head, tail, size, gathered, held, cut}
@@ -58,9 +58,9 @@ front (tail k g) b = g ++ (b ∷ [])
 abbrev pub numbersOf : Frame.Message → Message
 numbersOf m = record { address = m .address; length = length (m .body) }
 
--- the body of a message: the part of the store from place 6, or nothing where that does not lie in the store
+-- the body of a message: the part of the store from place 6
 abbrev pub dataOf : List ℕ → Message → List ℕ
-dataOf store m = cond (leb (6 + m .length) (length store)) (take (m .length) (drop 6 store)) []
+dataOf store m = dataAt 6 (m .length) store
 
 -- the message that a caller has of its numbers and the store
 abbrev pub messageOf : List ℕ → Message → Frame.Message

@@ -2,7 +2,7 @@
 use Prim.Native.Nat.{ℕ, suc, _+_, _-_, _/_, _%_, _^_, _≤_, _<_}
 use mathlib.Core.Path.{_≡_, refl, ap, sym, _∙_}
 use mathlib.Core.Bool.{true}
-use mathlib.Core.List.{List, [], _∷_, _++_, append-assoc}
+use mathlib.Core.List.{List, [], _∷_, _++_, append-nil, append-assoc}
 use mathlib.Core.Option.{Option, none, some}
 use native.Mathlib.Omega.{arith}
 use lib.ListN.{length, getD, take, drop, length-append, length-take, length-drop}
@@ -11,7 +11,7 @@ use borrow.Author.Tests.{le-leb}
 use Rattle.runs.specs.Runs.{over}
 use Rattle.runs.proofs.Cases.{by-test, by-eqb, by-ltb}
 use Rattle.framing.specs.Segment.{Segment, refused, accepted, noiseAfter}
-use Rattle.framing.proofs.Byte.{Reached, Takes, goes-on, restarts, closes, Ends, by-end, ends-quiet}
+use Rattle.framing.proofs.Byte.{data-stands, Reached, Takes, goes-on, restarts, closes, Ends, by-end, ends-quiet}
 use Rattle.packing.specs.Seven.{sent}
 use Rattle.packing.specs.Packed.{packed}
 use Rattle.packing.specs.Unpacked.{unpacked}
@@ -21,7 +21,7 @@ use Rattle.packing.proofs.Laws.{packed-unpacked}
 use Rattle.checksum.specs.Sum.{sumOf}
 use Rattle.pcs.specs.Frame.{Message, ok, body, frame}
 use Rattle.pcs.specs.Rules.{Phase, hunting, inside, size, gathered, held, stated, packedPart, asksCrc, fieldsOk, messageWith, unpack, judge, cut}
-use Rattle.pcs.specs.Contract.{frontOf, numbersOf, dataOf, messageOf, link}
+use Rattle.pcs.specs.Contract.{frontOf, numbersOf, messageOf, link}
 use Rattle.pcs.proofs.Allowed.{kind-same, Allowed, allowed, sendable}
 
 -- no more is gathered than the store holds
@@ -130,9 +130,7 @@ judge-noise g w n = ends-quiet (Judged g) w (judge g w) (judge-ends g w) n
 -- an accepted message is read back from its numbers where its data was written
 read-back : (m : Message) (store : List ℕ) → messageOf (over (m .payload) store) (numbersOf m) ≡ m
 read-back m store =
-    let here : dataOf (over (m .payload) store) (numbersOf m) ≡ m .payload =
-    rw (le-leb (length (m .payload)) (length (over (m .payload) store)) (simp length-append (omega arith)))
-    (take-append-seam (m .payload) (drop (length (m .payload)) store)) in
+    let here = data-stands [] (m .payload) [] (over (m .payload) store) (rw append-nil (take-append-seam (m .payload) (drop (length (m .payload)) store))) in
     λ i. record {
       receiver = m .receiver;
       sender = m .sender;
@@ -148,7 +146,7 @@ judge-takes g w h e =
     by-end (λ (s : Segment Message). Next g w (hunting, some s)) (Judged g) w (judge g w) (judge-ends g w)
     (λ n. closes reached g w [] (refused n w) refl (omega arith) tt)
     (λ m t. closes reached g w (m .payload) (accepted m) (t h .0 ∙ e) (omega (arith, sendable m (t h .1) .most))
-    (record { may = t h .1; read = λ store _ _. read-back m store; hunts = refl }))
+    (record { may = t h .1; read = λ store _. read-back m store; hunts = refl }))
 
 pub takes : (p : Phase) (b : ℕ) → length (gathered p) ≤ size → Next (gathered p) (held p ++ (b ∷ [])) (cut p b)
 takes hunting b h =

@@ -1,13 +1,13 @@
 -- What the functions of the PCS link answer and leave, for every input.
 use Prim.Native.Nat.{ℕ}
 use mathlib.Core.Bool.{cond}
-use mathlib.Core.List.{List, []}
+use mathlib.Core.List.{List}
 use mathlib.Core.Option.{Option, none, some}
 use lib.ListN.{length, take}
-use lib.Dec.{leb, eqb}
+use lib.Dec.{eqb}
 use Rattle.framing.specs.Segment.{Segment, noise, refused, accepted}
 use Rattle.framing.specs.State.{freshState, knownState, stateAfter}
-use Rattle.framing.specs.Link.{Link, Lent, Told, nothing, numbers, number}
+use Rattle.framing.specs.Link.{Link, Lent, Told, nothing, numbers, number, dataAt}
 use Rattle.framing.specs.declared.State.{State}
 use Rattle.pcs.specs.Frame.{Typed, ok, frame}
 use Rattle.pcs.specs.Frame as Frame
@@ -46,9 +46,9 @@ numbersOf m =
       length = length (m .payload);
     }
 
--- the data of a message: the part of the store from place 0, or nothing where that does not lie in the store
+-- the data of a message: the part of the store from place 0
 abbrev pub dataOf : List ℕ → Message → List ℕ
-dataOf store m = cond (leb (m .length) (length store)) (take (m .length) store) []
+dataOf store m = dataAt 0 (m .length) store
 
 -- the message that a caller has of its numbers and the store
 abbrev pub messageOf : List ℕ → Message → Frame.Message

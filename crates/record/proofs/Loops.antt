@@ -7,6 +7,7 @@ use native.Mathlib.Numerals.{add-one}
 use native.Mathlib.Nat.{mul-suc, mul-le-mul-left, zero-add, mul-zero}
 use lib.ListN.{length, getD, take, drop, set, drop-of-length-le, List·getD-map, length-map}
 use lib.Seq.{sets, drop-cons, drop-drop}
+use Rattle.runs.specs.Runs.{each}
 use Rattle.runs.specs.Number.{number, bytesOf}
 use Rattle.runs.proofs.Number.{length-bytesOf}
 use Rattle.runs.proofs.Run.{Run, run-start, run-one, run-part, run-end, sets-append}
@@ -62,7 +63,7 @@ module _ {A : Type 0} (F : Signedness A) (size : ℕ) (l : List A) where
 
   pub put-step : {out₀ out out′ : List ℕ} (i n : ℕ) (d : A) → Put out₀ i out → i < length l → n ≡ F .numberOf size (getD l i d)
       → out′ ≡ sets out (5 + size * i) (bytesOf size n) → Put out₀ (i + 1) out′
-  unfolding bytesOfAll
+  unfolding each
   put-step i n d run h e o =
       let ns = map (F .numberOf size) l in
       let here : drop i ns ≡ n ∷ drop (i + 1) ns =
@@ -70,7 +71,7 @@ module _ {A : Type 0} (F : Signedness A) (size : ℕ) (l : List A) where
       run-part (bytesOf size n) run (ap (bytesOfAll size) here) (rw (length-bytesOf, add-one) (mul-suc size i)) o
 
   pub put-end : {out₀ out : List ℕ} (i : ℕ) → Put out₀ i out → length l ≤ i → out ≡ sets out₀ 5 (bytesFrom 0)
-  unfolding bytesOfAll
+  unfolding each
   put-end i run h = run-end run (ap (bytesOfAll size) (drop-of-length-le (map (F .numberOf size) l) {i = i} (rw length-map h)))
 
 -- the head: the type, and two numbers of two bytes

@@ -9,7 +9,7 @@ use lib.Dec.{ltb}
 use lib.ListN.{length, getD, take, drop, length-append, length-take, length-drop, take-append-drop}
 use lib.Seq.{length-take-le, take-at, drop-at, drop-drop}
 use borrow.Author.Tests.{ltb-true, lt-ltb}
-use Rattle.runs.specs.Runs.{Bytes}
+use Rattle.runs.specs.Runs.{Bytes, each}
 use Rattle.runs.specs.Number.{number, bytesOf}
 use Rattle.runs.proofs.Bytes.{bytes-drop, bytes-take}
 use Rattle.runs.proofs.Cases.{and-both}
@@ -37,13 +37,13 @@ getD-numbers size (suc k) bs (suc i) l =
     getD-numbers size k (drop size bs) i (omega arith) ∙ rw (drop-drop, e)
 
 pub length-bytesOfAll : (size : ℕ) (ns : List ℕ) → length (bytesOfAll size ns) ≡ size * length ns
-unfolding bytesOfAll
+unfolding each
 length-bytesOfAll size [] = rw mul-zero
 length-bytesOfAll size (n ∷ ns) =
     rw (length-append, length-bytesOf, length-bytesOfAll size ns) (omega (arith, mul-suc size (length ns)))
 
 pub numbers-bytesOfAll : (size : ℕ) (ns : List ℕ) → every (fits size) ns ≡ true → numbers size (length ns) (bytesOfAll size ns) ≡ ns
-unfolding numbers bytesOfAll every
+unfolding numbers each every
 numbers-bytesOfAll size [] e = refl
 numbers-bytesOfAll size (n ∷ ns) e =
     let h : (fits size n ≡ true) × (every (fits size) ns ≡ true) = and-both _ _ e in
@@ -52,7 +52,7 @@ numbers-bytesOfAll size (n ∷ ns) e =
     (ap (λ m. n ∷ m) (numbers-bytesOfAll size ns (h .1)))
 
 pub bytesOfAll-numbers : (size k : ℕ) (bs : List ℕ) → Bytes bs → length bs ≡ size * k → bytesOfAll size (numbers size k bs) ≡ bs
-unfolding numbers bytesOfAll
+unfolding numbers each
 bytesOfAll-numbers size zero bs h l = empty bs (l ∙ mul-zero size)
   where
     empty : (bs : List ℕ) → length bs ≡ 0 → [] ≡ bs

@@ -1,8 +1,9 @@
 -- Lists of numbers of one size in bytes, low byte first, and a test of every element. Nothing here knows of records.
 use Prim.Native.Nat.{ℕ, zero, suc, _*_}
-use mathlib.Core.List.{List, [], _∷_, _++_}
+use mathlib.Core.List.{List, [], _∷_}
 use mathlib.Core.Bool.{Bool, true, _&&_}
 use lib.ListN.{take, drop}
+use Rattle.runs.specs.Runs.{each}
 use Rattle.runs.specs.Number.{number, bytesOf}
 
 -- the first count numbers of size bytes each
@@ -15,9 +16,8 @@ abbrev pub numberAt : ℕ → List ℕ → ℕ → ℕ
 numberAt size bs i = number (take size (drop (size * i) bs))
 
 -- numbers as bytes, size bytes each
-unfoldable pub bytesOfAll : ℕ → List ℕ → List ℕ
-bytesOfAll size [] = []
-bytesOfAll size (n ∷ ns) = bytesOf size n ++ bytesOfAll size ns
+abbrev pub bytesOfAll : ℕ → List ℕ → List ℕ
+bytesOfAll size ns = each (bytesOf size) ns
 
 -- a test holds of every element
 unfoldable pub every : {A : Type 0} → (A → Bool) → List A → Bool

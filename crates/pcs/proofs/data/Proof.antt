@@ -1,4 +1,4 @@
-use native.Mathlib.Nat.{sub-zero}
+use native.Mathlib.Nat.{zero-add, sub-zero}
 use borrow.Author.Tests.{le-leb, lt-leb}
 use borrow.Author.Needs.{needs}
 use Rattle.pcs.proofs.data.Statement.{statement}
@@ -23,10 +23,10 @@ part-result-end-2 : tie.Need-part-result-end-2
 part-result-end-2 c = search needs
 
 returns : tie.Need-returns
-returns c = simp (le-leb _ _ (c .before .if1 .taken), sub-zero)
+returns c = simp (zero-add, le-leb _ _ (c .before .if1 .taken), sub-zero)
 
 returns-2 : tie.Need-returns-2
-returns-2 c = simp (lt-leb _ _ (c .before .if1 .left))
+returns-2 c = simp (zero-add, lt-leb _ _ (c .before .if1 .left))
 
 pub data-spec : {M : Type 1} → statement M
 data-spec =
