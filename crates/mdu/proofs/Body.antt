@@ -14,7 +14,7 @@ use Rattle.framing.specs.Receiver.{later, stop, feed}
 use Rattle.framing.specs.Segment.{Segment, Event, eventOf}
 use Rattle.framing.specs.Link.{Lent, stepOn}
 use Rattle.framing.proofs.Feed.{later-zero, later-later}
-use Rattle.framing.proofs.Loop.{Passed}
+use Rattle.framing.specs.Passing.{Passed}
 use Rattle.mdu.specs.Frame.{Message}
 use Rattle.mdu.specs.Rules.{Phase, tail, size, cut}
 use Rattle.mdu.specs.Contract.{knownState, stateAfter, link}

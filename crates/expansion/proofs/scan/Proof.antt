@@ -3,7 +3,8 @@ use native.Mathlib.Omega.{arith}
 use Prim.Native.Nat.{_≤_, _-_}
 use mathlib.Core.Path.{_≡_, refl, sym, _∙_}
 use lib.ListN.{length, getD}
-use Rattle.framing.proofs.Loop.{Passed, passed-none, passed-more, passed-event, passed-all}
+use Rattle.framing.specs.Passing.{Passed}
+use Rattle.framing.proofs.Loop.{passed-none, passed-more, passed-event, passed-all}
 use Rattle.expansion.specs.Rules.{size}
 use Rattle.expansion.specs.Contract.{link, toldOf}
 use Rattle.expansion.proofs.Count.{count-next}

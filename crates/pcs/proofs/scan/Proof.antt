@@ -3,7 +3,8 @@ use mathlib.Core.Path.{_≡_, refl, sym, _∙_}
 use native.Mathlib.Omega.{arith}
 use lib.ListN.{length, getD}
 use borrow.Author.Needs.{needs}
-use Rattle.framing.proofs.Loop.{Passed, passed-none, passed-more, passed-event, passed-all}
+use Rattle.framing.specs.Passing.{Passed}
+use Rattle.framing.proofs.Loop.{passed-none, passed-more, passed-event, passed-all}
 use Rattle.pcs.specs.Rules.{size}
 use Rattle.pcs.specs.Contract.{link, toldOf}
 use Rattle.pcs.proofs.Store.{next-count}

@@ -5,7 +5,8 @@ use Prim.Native.Nat.{_≤_, _-_}
 use mathlib.Core.Path.{_≡_, refl, ap, sym, _∙_}
 use mathlib.Core.Bool.{true}
 use lib.ListN.{length, getD}
-use Rattle.framing.proofs.Loop.{Passed, passed-none, passed-more, passed-event, passed-all}
+use Rattle.framing.specs.Passing.{Passed}
+use Rattle.framing.proofs.Loop.{passed-none, passed-more, passed-event, passed-all}
 use Rattle.mdu.specs.Rules.{size}
 use Rattle.mdu.specs.Contract.{knownState, link, toldOf}
 use Rattle.mdu.proofs.Known.{known-next}
