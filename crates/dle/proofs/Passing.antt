@@ -18,7 +18,7 @@ use Rattle.framing.specs.State.{afterNoise, stateAfter}
 use Rattle.framing.specs.Link.{Lent, stepOn}
 use Rattle.framing.specs.Passing.{Leads, Gathers}
 use Rattle.framing.specs.declared.State.{State}
-use Rattle.framing.proofs.Passing.{leads-then, leads-byte, leads-noise, gathers-run}
+use Rattle.framing.proofs.Passing.{leads-then, leads-byte, leads-noise, gathers-before}
 use Rattle.dle.specs.Frame.{Message}
 use Rattle.dle.specs.Rules.{Phase, inside, size, gathered, held, cut}
 use Rattle.dle.specs.Contract.{modeOf, link}
@@ -28,7 +28,7 @@ use Rattle.dle.specs.Steps.{opened, doubled}
 noise-step : (store : List ℕ) (s : State) (b : ℕ) → s .mode ≡ 0 → between 0x10 0x10 b ≡ false → stepOn link (s, store) b ≡ ((afterNoise s 1, store), none)
 noise-step store s b e h = rw (eq-eqb (s .mode) 0 e, ne-eqb b 0x10 (λ i. between-not 0x10 0x10 b h (omega arith) (omega arith)))
 
-pub leads-hunting : (piece : List ℕ) (s : State) (store : List ℕ) (i n : ℕ) → s .mode ≡ 0 → i ≤ length piece → n ≡ before 0x10 0x10 (drop i piece)
+pub leads-hunting : (piece : List ℕ) (s : State) (store : List ℕ) (i n : ℕ) → s .mode ≡ 0 → i ≤ length piece → n ≡ before 0x10 0x10 (take (length piece - i) (drop i piece))
     → Leads link piece (s, store) i (afterNoise s n, store) (i + n)
 leads-hunting piece s store i n e h l = leads-noise link piece 0x10 0x10 (λ x. x) s store i n e h (omega arith) (noise-step store)
 
@@ -64,14 +64,11 @@ module _ (k o z : ℕ) (store : List ℕ) (room : size ≤ length store) where
 
 module _ (piece store : List ℕ) (k i : ℕ) (room : size ≤ length store) where
   -- bytes before the next 10, as many as the size allows
-  pub gathers-plain : (n : ℕ) → k + n ≤ size → i ≤ length piece → n ≤ before 0x10 0x10 (drop i piece)
-      → Gathers link opened piece store k i (sets store k (take n (drop i piece))) (k + n) (i + n)
-  gathers-plain n most h l =
-      gathers-run link piece opened store k i n (omega (arith, before-within 0x10 0x10 (drop i piece), length-drop i piece)) (omega arith)
-      (λ j o z at less same.
-      plain-step (k + j) o z at (omega arith) (getD piece (i + j) 0) (omega arith)
-      (λ e. between-not 0x10 0x10 (getD piece (i + j) 0)
-      (ap (between 0x10 0x10) (sym (getD-drop i piece j 0)) ∙ before-not 0x10 0x10 (drop i piece) j (omega arith)) (omega arith) (omega arith)))
+  pub gathers-plain : (after : List ℕ) (n : ℕ) → k + n ≤ size → i ≤ length piece → n ≤ before 0x10 0x10 (take (length piece - i) (drop i piece))
+      → after ≡ sets store k (take n (take (length piece - i) (drop i piece))) → Gathers link opened piece store k i after (k + n) (i + n)
+  gathers-plain after n most h l e =
+      gathers-before link piece opened 0x10 0x10 store after k i n room most h l e
+      (λ k o z b at less room h. plain-step k o z at room b less (λ e. between-not 0x10 0x10 b h (omega arith) (omega arith)))
 
   -- a doubled 10
   pub gathers-doubled : k < size → doubled piece i ≡ true → Gathers link opened piece store k i (set store k 0x10) (k + 1) (i + 2)

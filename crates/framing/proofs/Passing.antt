@@ -10,6 +10,7 @@ use native.Mathlib.Numerals.{add-one}
 use lib.ListN.{length, getD, take, drop, set, length-drop}
 use lib.Seq.{sets, length-sets, getD-drop}
 use Rattle.runs.specs.Runs.{between, before}
+use Rattle.runs.proofs.Bytes.{part-rest}
 use Rattle.runs.proofs.Before.{before-within, before-not}
 use Rattle.runs.proofs.Cases.{by-eqb}
 use Rattle.runs.proofs.Run.{sets-more}
@@ -56,16 +57,30 @@ module _ (L : Link) (piece : List ℕ) where
         (subst (Leads L piece (c n) (i + n) (c (n + 1))) next
         (leads-byte (c n) (c (n + 1)) (i + n) (omega arith) (long (n + 1) ∙ sym (long n)) (quiet n (omega arith)))))
 
+  -- what is left of the piece from place i on, as a function that is lent it has it
+  abbrev left : ℕ → List ℕ
+  left i = take (length piece - i) (drop i piece)
+
+  -- the bytes before its first mark are no marks
+  module _ (low high i n : ℕ) (h : i ≤ length piece) (l : n ≤ before low high (left i)) where
+    before-left : n ≤ before low high (drop i piece)
+    before-left = omega (arith, ap (before low high) (part-rest piece i))
+
+    marks-within : i + n ≤ length piece
+    marks-within = omega (arith, before-left, before-within low high (drop i piece), length-drop i piece)
+
+    no-mark : (k : ℕ) → k < n → between low high (getD piece (i + k) 0) ≡ false
+    no-mark k less = ap (between low high) (sym (getD-drop i piece k 0)) ∙ before-not low high (drop i piece) k (omega (arith, before-left))
+
   -- noise before the first mark, where each byte that is no mark is noise to every state in plain hunting
   pub leads-noise : (low high : ℕ) (whole : State → L .State) (s : State) (store : List ℕ) (i n : ℕ) → s .mode ≡ 0 → i ≤ length piece
-      → n ≤ before low high (drop i piece)
+      → n ≤ before low high (left i)
       → ((x : State) (b : ℕ) → x .mode ≡ 0 → between low high b ≡ false → stepOn L (whole x, store) b ≡ ((whole (afterNoise x 1), store), none))
       → Leads L piece (whole s, store) i (whole (afterNoise s n), store) (i + n)
   leads-noise low high whole s store i n e h l quiet =
-      leads-run (λ k. (whole (afterNoise s k), store)) i (λ k. refl) n (omega (arith, before-within low high (drop i piece), length-drop i piece))
+      leads-run (λ k. (whole (afterNoise s k), store)) i (λ k. refl) n (marks-within low high i n h l)
       (λ k less.
-      quiet (afterNoise s k) (getD piece (i + k) 0) (noise-mode s k e)
-      (ap (between low high) (sym (getD-drop i piece k 0)) ∙ before-not low high (drop i piece) k (omega arith))
+      quiet (afterNoise s k) (getD piece (i + k) 0) (noise-mode s k e) (no-mark low high i n h l k less)
       ∙ ap (λ (x : State). ((whole x, store), none)) (noise-next s k e))
 
   module _ (opened : ℕ → ℕ → ℕ → L .State) where
@@ -126,6 +141,18 @@ module _ (L : Link) (piece : List ℕ) where
         stored : (k : ℕ) → k < n → set (sets store m (take k run)) (m + k) (getD piece (i + k) 0) ≡ sets store m (take (k + 1) run)
         stored k less =
             ap (set (sets store m (take k run)) (m + k)) (sym (getD-drop i piece k 0)) ∙ sym (sets-more store m run k 0 (rw length-drop (omega arith)))
+
+    -- the bytes before the first mark, as far as the size allows, where each byte that is no mark is gathered as it is
+    pub gathers-before : (low high : ℕ) (store after : List ℕ) (m i n : ℕ) → L .size ≤ length store → m + n ≤ L .size → i ≤ length piece
+        → n ≤ before low high (left i) → after ≡ sets store m (take n (left i))
+        → ((k o z b : ℕ) (at : List ℕ) → k < L .size → L .size ≤ length at → between low high b ≡ false
+        → stepOn L (opened k o z, at) b ≡ ((opened (k + 1) ((o + 1) % 2 ^ 32) z, set at k b), none))
+        → Gathers L opened piece store m i after (m + n) (i + n)
+    gathers-before low high store after m i n room most h l e quiet =
+        subst (λ (x : List ℕ). Gathers L opened piece store m i x (m + n) (i + n))
+        (sym (e ∙ ap (λ (x : List ℕ). sets store m (take n x)) (part-rest piece i)))
+        (gathers-run store m i n (marks-within low high i n h l) (omega arith)
+        (λ k o z at less same. quiet (m + k) o z (getD piece (i + k) 0) at (omega arith) (omega arith) (no-mark low high i n h l k less)))
 
     -- the numbers of a state of an open frame before and after
     pub gathers-leads : (s r : L .State) (store after : List ℕ) (m o z i n j : ℕ) → o < 2 ^ 32 → s ≡ opened m o z → r ≡ opened n ((o + (j - i)) % 2 ^ 32) z

@@ -1,15 +1,6 @@
 use borrow.Author.Needs.{needs}
 use native.Mathlib.Omega.{arith}
-use Prim.Native.Nat.{ℕ, _+_, _≤_}
-use mathlib.Core.Path.{_≡_, ap, sym, _∙_, subst}
-use mathlib.Core.List.{List}
-use lib.ListN.{drop, take}
-use lib.Seq.{sets}
-use Rattle.runs.specs.Runs.{before}
-use Rattle.runs.proofs.Bytes.{part-rest}
-use Rattle.framing.specs.Passing.{Gathers}
-use Rattle.dle.specs.Contract.{link}
-use Rattle.dle.specs.Steps.{opened}
+use mathlib.Core.Path.{sym, _∙_}
 use Rattle.dle.proofs.Passing.{gathers-plain, gathers-doubled}
 use Rattle.dle.proofs.gather_some.Statement.{statement}
 use Rattle.dle.proofs.gather_some.Tie as tie
@@ -65,15 +56,10 @@ returns-2 c =
     let f = c .before .before in
     let a = f .before .before .before .before .before .before .args in
     let p = f .before .before .before .before .before .before .pre in
-    let n = f .copy-before .result in
-    let rest = part-rest (a .piece .now) (a .from) in
-    let before-is = ap (before 0x10 0x10) rest in
-    let stored : f .copy-before .last .1 .1 .1 .0 ≡ sets (a .store .now) (a .count) (take n (drop (a .from) (a .piece .now))) =
-    f .copy-before .ensures .1 .1 ∙ ap (λ (l : List ℕ). sets (a .store .now) (a .count) (take n l)) rest in (
-      subst (λ (l : List ℕ). Gathers link opened (a .piece .now) (a .store .now) (a .count) (a .from) l (a .count + n) (a .from + n)) (sym stored)
-          (gathers-plain (a .piece .now) (a .store .now) (a .count) (a .from) (p .1) n (omega (arith, f .copy-before .ensures .1 .0)) (p .2)
-          (omega (arith, f .copy-before .ensures .0, before-is))),
-      omega (arith, f .copy-before .ensures .1 .0),
+    let h = f .copy-before .ensures in (
+      gathers-plain (a .piece .now) (a .store .now) (a .count) (a .from) (p .1) (f .copy-before .last .1 .1 .1 .0) (f .copy-before .result)
+          (omega (arith, h .1 .0)) (p .2) (omega (arith, h .0)) (h .1 .1),
+      omega (arith, h .1 .0),
     )
 
 pub gather-some-spec : {M : Type 1} → statement M

@@ -1,9 +1,6 @@
 use borrow.Author.Needs.{needs}
 use native.Mathlib.Omega.{arith}
 use Prim.Native.Nat.{_≤_}
-use mathlib.Core.Path.{ap, _∙_}
-use Rattle.runs.specs.Runs.{before}
-use Rattle.runs.proofs.Bytes.{part-rest}
 use Rattle.runs.proofs.Cases.{by-eqb}
 use Rattle.framing.specs.declared.State.{State}
 use Rattle.dle.specs.Rules.{size}
@@ -34,9 +31,8 @@ returns c =
     let a = c .before .before .before .before .args in
     let p = c .before .before .before .before .pre in
     let n = c .before .count-before .result in
-    let e = c .before .count-before .ensures .0 ∙ ap (before 0x10 0x10) (part-rest (a .piece .now) (a .from)) in
     λ store. rw (c .pass-noise .ensures) (record {
-      leads = leads-hunting (a .piece .now) (a .state) store (a .from) n (p .0) (p .2) e;
+      leads = leads-hunting (a .piece .now) (a .state) store (a .from) n (p .0) (p .2) (c .before .count-before .ensures .0);
       count = by-eqb (λ (s : State). s .count ≤ size) n 0 (λ _. p .1) (λ _. omega arith);
     })
 
