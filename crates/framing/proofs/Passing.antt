@@ -12,13 +12,9 @@ use lib.Seq.{sets, length-sets, getD-drop}
 use Rattle.runs.specs.Runs.{between, before}
 use Rattle.runs.proofs.Bytes.{part-rest}
 use Rattle.runs.proofs.Before.{before-within, before-not}
-use Rattle.runs.proofs.Cases.{by-eqb}
 use Rattle.runs.proofs.Run.{sets-more}
-use Rattle.framing.specs.State.{afterNoise}
 use Rattle.framing.specs.Link.{Link, Lent, nothing, told, stepOn}
-use Rattle.framing.specs.Passing.{Passed, Leads, Gathers}
-use Rattle.framing.specs.declared.State.{State}
-use Rattle.framing.proofs.States.{noise-mode, noise-next}
+use Rattle.framing.specs.Passing.{Leads, Gathers}
 use Rattle.framing.proofs.Loop.{passed-more}
 
 module _ (L : Link) (piece : List ℕ) where
@@ -72,16 +68,13 @@ module _ (L : Link) (piece : List ℕ) where
     no-mark : (k : ℕ) → k < n → between low high (getD piece (i + k) 0) ≡ false
     no-mark k less = ap (between low high) (sym (getD-drop i piece k 0)) ∙ before-not low high (drop i piece) k (omega (arith, before-left))
 
-  -- noise before the first mark, where each byte that is no mark is noise to every state in plain hunting
-  pub leads-noise : (low high : ℕ) (whole : State → L .State) (s : State) (store : List ℕ) (i n : ℕ) → s .mode ≡ 0 → i ≤ length piece
-      → n ≤ before low high (left i)
-      → ((x : State) (b : ℕ) → x .mode ≡ 0 → between low high b ≡ false → stepOn L (whole x, store) b ≡ ((whole (afterNoise x 1), store), none))
-      → Leads L piece (whole s, store) i (whole (afterNoise s n), store) (i + n)
-  leads-noise low high whole s store i n e h l quiet =
-      leads-run (λ k. (whole (afterNoise s k), store)) i (λ k. refl) n (marks-within low high i n h l)
-      (λ k less.
-      quiet (afterNoise s k) (getD piece (i + k) 0) (noise-mode s k e) (no-mark low high i n h l k less)
-      ∙ ap (λ (x : State). ((whole x, store), none)) (noise-next s k e))
+  -- noise before the first mark, where each byte that is no mark is noise: on k is the state after k of them
+  pub leads-before : (low high : ℕ) (on : ℕ → L .State) (store : List ℕ) (i n : ℕ) → i ≤ length piece → n ≤ before low high (left i)
+      → ((k b : ℕ) → between low high b ≡ false → stepOn L (on k, store) b ≡ ((on (k + 1), store), none))
+      → Leads L piece (on 0, store) i (on n, store) (i + n)
+  leads-before low high on store i n h l quiet =
+      leads-run (λ k. (on k, store)) i (λ k. refl) n (marks-within low high i n h l)
+      (λ k less. quiet k (getD piece (i + k) 0) (no-mark low high i n h l k less))
 
   module _ (opened : ℕ → ℕ → ℕ → L .State) where
     pub gathers-none : (store : List ℕ) (m i : ℕ) → i ≤ length piece → Gathers L opened piece store m i store m i

@@ -16,7 +16,8 @@ use Rattle.framing.specs.State.{afterNoise, stateAfter}
 use Rattle.framing.specs.Link.{Lent, stepOn}
 use Rattle.framing.specs.Passing.{Leads, Gathers}
 use Rattle.framing.specs.declared.State.{State}
-use Rattle.framing.proofs.Passing.{leads-noise, gathers-before}
+use Rattle.framing.proofs.States.{noise-mode, noise-next}
+use Rattle.framing.proofs.Passing.{leads-before, gathers-before}
 use Rattle.pcs.specs.Frame.{Message}
 use Rattle.pcs.specs.Rules.{Phase, inside, size, gathered, held, cut}
 use Rattle.pcs.specs.Contract.{modeOf, frontOf, link}
@@ -28,7 +29,9 @@ noise-step store s b e h = rw (eq-eqb (s .mode) 0 e, ne-eqb b 253 (λ i. between
 
 pub leads-hunting : (piece : List ℕ) (s : State) (store : List ℕ) (i n : ℕ) → s .mode ≡ 0 → i ≤ length piece → n ≡ before 253 253 (take (length piece - i) (drop i piece))
     → Leads link piece (s, store) i (afterNoise s n, store) (i + n)
-leads-hunting piece s store i n e h l = leads-noise link piece 253 253 (λ x. x) s store i n e h (omega arith) (noise-step store)
+leads-hunting piece s store i n e h l =
+    leads-before link piece 253 253 (afterNoise s) store i n h (omega arith)
+    (λ k b q. noise-step store (afterNoise s k) b (noise-mode s k e) q ∙ ap (λ (x : State). ((x, store), none)) (noise-next s k e))
 
 -- what a byte leaves and tells, by what the rules give
 abbrev after : State → List ℕ → Phase × Option (Segment Message) → Lent link × Option (Event Message)
