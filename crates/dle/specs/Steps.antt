@@ -1,17 +1,21 @@
 -- What the receiver's private functions answer: the steps of a call.
-use Prim.Native.Nat.{ℕ, _≤_}
+use Prim.Native.Nat.{ℕ, _+_, _≤_}
 use mathlib.Core.Path.{_≡_}
+use mathlib.Core.Bool.{Bool, _&&_}
 use mathlib.Core.List.{List}
 use mathlib.Core.Option.{Option}
-use lib.ListN.{length}
+use lib.Dec.{ltb, eqb}
+use lib.ListN.{length, getD}
 use Rattle.framing.specs.Segment.{Segment, eventOf}
 use Rattle.framing.specs.State.{stateAfter}
-use Rattle.framing.specs.Link.{told}
+use Rattle.framing.specs.Link.{Lent, told}
+use Rattle.framing.specs.Passing.{Leads}
 use Rattle.framing.specs.declared.State.{State}
 use Rattle.dle.specs.Frame as Frame
 use Rattle.dle.specs.Rules.{Phase, size, gathered, held}
 use Rattle.dle.specs.Contract.{modeOf, link, toldOf}
 use Rattle.dle.specs.declared.Stepped.{Stepped}
+use Rattle.dle.specs.declared.Reached.{Reached}
 
 -- what is answered of a byte by what the rules give: the phase after it, and the segment that it closes
 pub record Answers (s : State) (c : Phase × Option (Segment Frame.Message)) (r : Stepped) : Type 0 where
@@ -23,3 +27,16 @@ pub record Open (s : State) (store : List ℕ) : Type 0 where
   pub mode : 2 ≤ s .mode
   pub count : s .count ≤ size
   pub room : size ≤ length store
+
+-- an open frame with no 10 waiting, by its counts
+abbrev pub opened : ℕ → ℕ → ℕ → State
+opened count held noise = record { mode = 2; count = count; «open» = held; noise = noise }
+
+-- a doubled 10 lies whole at a place
+abbrev pub doubled : List ℕ → ℕ → Bool
+doubled piece at = ltb (at + 1) (length piece) && (eqb (getD piece at 0) 0x10 && eqb (getD piece (at + 1) 0) 0x10)
+
+-- from place i of a piece so many bytes are passed at once, without an event
+pub record Passes (piece : List ℕ) (c : Lent link) (i : ℕ) (r : Reached) (after : List ℕ) : Type 0 where
+  pub leads : Leads link piece c i (r .state, after) (r .next)
+  pub count : r .state .count ≤ size

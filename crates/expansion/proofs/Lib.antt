@@ -1,5 +1,5 @@
 -- `Hidden`: the code of the link as its rules use it. `Judge`: the end of a frame. `Cut`: what each byte does. `Readback`: a frame is read back.
--- `Lawful`, `Refused`, `Theorems`: the claims. `Count`, `Store`: for the receiver's code. `Laid`: for the writer's.
+-- `Lawful`, `Refused`, `Theorems`: the claims. `Count`, `Store`, `Passing`: for the receiver's code. `Laid`: for the writer's.
 pub mod Hidden
 pub mod Judge
 pub mod Cut
@@ -10,3 +10,4 @@ pub mod Theorems
 pub mod Count
 pub mod Store
 pub mod Laid
+pub mod Passing

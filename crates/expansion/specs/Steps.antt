@@ -1,18 +1,22 @@
 -- What the receiver's private functions answer: the steps of a call.
-use Prim.Native.Nat.{ℕ, _≤_}
+use Prim.Native.Nat.{ℕ, _+_, _≤_}
 use mathlib.Core.Path.{_≡_}
+use mathlib.Core.Bool.{Bool, _&&_}
 use mathlib.Core.List.{List}
 use mathlib.Core.Option.{Option}
-use lib.ListN.{length}
+use lib.Dec.{ltb, leb, eqb}
+use lib.ListN.{length, getD}
 use Rattle.runs.specs.Runs.{over}
 use Rattle.framing.specs.Segment.{Segment, eventOf}
 use Rattle.framing.specs.State.{stateAfter}
-use Rattle.framing.specs.Link.{told}
+use Rattle.framing.specs.Link.{Lent, told}
+use Rattle.framing.specs.Passing.{Leads}
 use Rattle.framing.specs.declared.State.{State}
 use Rattle.expansion.specs.Frame as Frame
 use Rattle.expansion.specs.Rules.{Phase, size, gathered, held}
 use Rattle.expansion.specs.Contract.{modeOf, link, toldOf}
 use Rattle.expansion.specs.declared.Stepped.{Stepped}
+use Rattle.expansion.specs.declared.Reached.{Reached}
 
 -- what is answered of a byte, and the store after it, by what the rules give: the phase after it, and the segment that it closes
 pub record Answers (s : State) (store : List ℕ) (c : Phase × Option (Segment Frame.Message)) (r : Stepped) (after : List ℕ) : Type 0 where
@@ -24,3 +28,16 @@ pub record Answers (s : State) (store : List ℕ) (c : Phase × Option (Segment 
 pub record Room (s : State) (store : List ℕ) : Type 0 where
   pub count : s .count ≤ size
   pub room : size ≤ length store
+
+-- an open frame with no FF waiting, by its counts
+abbrev pub opened : ℕ → ℕ → ℕ → State
+opened count held noise = record { mode = 1; count = count; «open» = held; noise = noise }
+
+-- a hidden byte lies whole at a place: FF and then 00, 01 or 02
+abbrev pub hiddenAt : List ℕ → ℕ → Bool
+hiddenAt piece at = ltb (at + 1) (length piece) && (eqb (getD piece at 0) 0xFF && leb (getD piece (at + 1) 0) 0x02)
+
+-- from place i of a piece so many bytes are passed at once, without an event
+pub record Passes (piece : List ℕ) (c : Lent link) (i : ℕ) (r : Reached) (after : List ℕ) : Type 0 where
+  pub leads : Leads link piece c i (r .state, after) (r .next)
+  pub count : r .state .count ≤ size

@@ -15,13 +15,14 @@ ghost use Rattle.framing.specs.Answer.{outcomeOf, storedAt};
 ghost use Rattle.framing.specs.Writer.{writes};
 ghost use Rattle.framing.specs.Receiver.{feed};
 ghost use Rattle.framing.specs.Segment.{eventOf};
+ghost use Rattle.framing.specs.Passing.{Gathers};
 ghost use Rattle.framing.specs.Link.{isEvent, told, stepOn, answered, answer};
 ghost use Rattle.escape.specs.Code.{meaningOf, meaning, hide};
 ghost use Rattle.escape.specs.Expansion as Escape;
 ghost use Rattle.expansion.specs.Frame.{kindOk, ok, enclose, frame};
 ghost use Rattle.expansion.specs.Rules.{hunting, size, checkRight, judge, gather, act, cut};
 ghost use Rattle.expansion.specs.Contract.{phaseOf, dataOf, link, toldOf, answerOf};
-ghost use Rattle.expansion.specs.Steps.{Answers, Room};
+ghost use Rattle.expansion.specs.Steps.{Answers, Room, opened, hiddenAt, Passes};
 
 // The least store of a receiver: a header of 4 bytes, at most 1,024 of data, a CRC of 4.
 const SIZE: usize = 1032;
@@ -51,6 +52,18 @@ pub struct Received {
 struct Stepped {
     event: Event,
     state: State,
+}
+
+// What is reached by passing bytes: the state, and the next place of the piece.
+struct Reached {
+    state: State,
+    next: usize,
+}
+
+// What is reached inside a frame: how many bytes are gathered, and the next place of the piece.
+struct Gathered {
+    count: usize,
+    next: usize,
 }
 
 // Whether a message of this type may carry so much data.
@@ -274,6 +287,94 @@ fn made(event: Event) -> bool
     }
 }
 
+// The noise from a place on, up to the next FD.
+fn pass_noise(state: State, piece: &[u8], from: usize) -> Reached
+    requires { ⌜ (state .mode ≡ 0) × (state .count ≤ size) × (from ≤ length (now piece)) ⌝ }
+    ensures { λ r. ⌜ ((store : List ℕ) → Passes (now (piece .entry)) (state, store) from r store) ⌝ }
+{
+    let n = runs::count_before(0xFD, 0xFD, &piece[from..]);
+    Reached {
+        state: framing::pass_noise(state, n),
+        next: from + n,
+    }
+}
+
+// Whether a hidden byte lies whole at a place: FF and then 00, 01 or 02.
+fn is_hidden(piece: &[u8], at: usize) -> bool
+    requires { ⌜ at ≤ length (now piece) ⌝ }
+    ensures { λ r. ⌜ r ≡ hiddenAt (now (piece .entry)) at ⌝ }
+{
+    if at + 1 < piece.len() {
+        if piece[at] == 0xFF {
+            piece[at + 1] <= 0x02
+        } else {
+            false
+        }
+    } else {
+        false
+    }
+}
+
+// Bytes of an open frame with so many gathered: a hidden one, or those up to the next FD, FE or FF, as far as the size allows.
+fn gather_some(store: &mut [u8], piece: &[u8], count: usize, from: usize) -> Gathered
+    requires { ⌜ (count ≤ size) × (size ≤ length (now store)) × (from ≤ length (now piece)) ⌝ }
+    ensures gathers { λ r. ⌜ Gathers link opened (now (piece .entry)) (now (store .entry)) count from (now (store .exit)) (r .count) (r .next) ⌝ }
+    ensures most { λ r. ⌜ r .count ≤ size ⌝ }
+{
+    if count < SIZE {
+        if is_hidden(piece, from) {
+            store[count] = 0xFF - piece[from + 1];
+            return Gathered {
+                count: count + 1,
+                next: from + 2,
+            };
+        }
+    }
+    let n = runs::copy_before(0xFD, 0xFF, &piece[from..], store, count, SIZE - count);
+    Gathered {
+        count: count + n,
+        next: from + n,
+    }
+}
+
+// The bytes of an open frame from a place on, up to a mark, a half or wrong code, the size or the end of the piece.
+fn pass_bytes(state: State, store: &mut [u8], piece: &[u8], from: usize) -> Reached
+    requires { ⌜ (state .mode ≡ 1) × (state .count ≤ size) × (size ≤ length (now store)) × (from ≤ length (now piece)) ⌝ }
+    ensures { λ r. ⌜ Passes (now (piece .entry)) (state, now (store .entry)) from r (now (store .exit)) ⌝ }
+{
+    let mut count = state.count;
+    let mut i = from;
+    loop {
+        let more = gather_some(store, piece, count, i);
+        if more.next == i {
+            return Reached {
+                state: framing::pass_open(state, more.count, more.next - from),
+                next: more.next,
+            };
+        }
+        count = more.count;
+        i = more.next;
+    }
+}
+
+// The bytes that are passed at once: noise, or bytes of an open frame with no FF waiting.
+fn advance(state: State, store: &mut [u8], piece: &[u8], from: usize) -> Reached
+    requires { ⌜ (state .count ≤ size) × (size ≤ length (now store)) × (from ≤ length (now piece)) ⌝ }
+    ensures { λ r. ⌜ Passes (now (piece .entry)) (state, now (store .entry)) from r (now (store .exit)) ⌝ }
+{
+    let mode = state.mode;
+    if mode == 0 {
+        return pass_noise(state, piece, from);
+    }
+    if mode == 1 {
+        return pass_bytes(state, store, piece, from);
+    }
+    Reached {
+        state: state,
+        next: from,
+    }
+}
+
 // The bytes of a piece, up to and including the first that makes an event.
 fn scan(state: State, store: &mut [u8], piece: &[u8]) -> Received
     requires { ⌜ Room state (now store) ⌝ }
@@ -281,8 +382,18 @@ fn scan(state: State, store: &mut [u8], piece: &[u8]) -> Received
 {
     let mut current = state;
     let mut i = 0;
-    while i < piece.len() {
-        let s = step(current, store, piece[i]);
+    loop {
+        let reached = advance(current, store, piece, i);
+        let passed = reached.state;
+        i = reached.next;
+        if i == piece.len() {
+            return Received {
+                event: Event::Nothing,
+                used: i,
+                state: passed,
+            };
+        }
+        let s = step(passed, store, piece[i]);
         let next = s.state;
         current = next;
         i += 1;
@@ -294,11 +405,6 @@ fn scan(state: State, store: &mut [u8], piece: &[u8]) -> Received
                 state: current,
             };
         }
-    }
-    Received {
-        event: Event::Nothing,
-        used: i,
-        state: current,
     }
 }
 

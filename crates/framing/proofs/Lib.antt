@@ -1,5 +1,6 @@
 -- `Stored`: runs stored into lent memory. `Feed`, `Cutting`: any machine, fed and driven. `Segments`: the rules' segments. `Calls`: demand 3
--- from self-delimiting frames. `Byte`: what a link has to show of each byte. `Lawful`: what else, and all claims from it. `States`, `Loop`: for a link's code.
+-- from self-delimiting frames. `Byte`: what a link has to show of each byte. `Lawful`: what else, and all claims from it. `States`, `Loop`,
+-- `Passing`: for a link's code.
 pub mod Stored
 pub mod Feed
 pub mod Cutting
@@ -10,3 +11,4 @@ pub mod Lawful
 pub mod Whole
 pub mod States
 pub mod Loop
+pub mod Passing

@@ -1,4 +1,4 @@
--- The loop of a receiver over a piece: what the whole call gives is what is left to do gives, behind the bytes passed.
+-- The loop of a receiver over a piece: what the whole call gives is what is left to do gives, behind the bytes passed. `Passed` is its invariant.
 use Prim.Native.Nat.{ℕ, _+_, _<_}
 use mathlib.Core.Path.{_≡_, ap, sym, _∙_, subst}
 use mathlib.Core.Bool.{true, false, false≢true, true≢false}
@@ -11,14 +11,11 @@ use Rattle.runs.proofs.Bytes.{drop-next}
 use Rattle.framing.specs.Receiver.{later, stop, feed}
 use Rattle.framing.specs.Segment.{Event, message, refusal}
 use Rattle.framing.specs.Link.{Link, Lent, Told, isEvent, stepOn, told, answered}
+use Rattle.framing.specs.Passing.{Passed}
 use Rattle.framing.proofs.Feed.{later-zero, later-later}
 
 module _ (L : Link) where
-  -- from c₀ the call has passed i bytes of the piece without an event and come to c: the loop's invariant
-  abbrev pub Passed : Lent L → List ℕ → Lent L → ℕ → Type 0
-  Passed c₀ piece c i = feed (stepOn L) c₀ piece ≡ later i (feed (stepOn L) c (drop i piece))
-
-  pub passed-none : (c : Lent L) (piece : List ℕ) → Passed c piece c 0
+  pub passed-none : (c : Lent L) (piece : List ℕ) → Passed L c piece c 0
   passed-none c piece = sym (later-zero (feed (stepOn L) c piece))
 
   told-none : (o : Option (Event (L .Message))) → isEvent (told L o) ≡ false → o ≡ none
@@ -31,15 +28,15 @@ module _ (L : Link) where
   told-some (some e) h = (e, λ _. some e)
 
   -- a byte more: v is what its step tells, and d what it leaves
-  module _ (c₀ c d : Lent L) (piece : List ℕ) (i : ℕ) (v : Told (L .Numbers)) (h : i < length piece) (passed : Passed c₀ piece c i)
+  module _ (c₀ c d : Lent L) (piece : List ℕ) (i : ℕ) (v : Told (L .Numbers)) (h : i < length piece) (passed : Passed L c₀ piece c i)
       (tells : v ≡ told L (stepOn L c (getD piece i 0) .1)) (leaves : d ≡ stepOn L c (getD piece i 0) .0) where
     turn : feed (stepOn L) c₀ piece
         ≡ later i (stop (stepOn L c (getD piece i 0) .0) (stepOn L c (getD piece i 0) .1) (feed (stepOn L) (stepOn L c (getD piece i 0) .0) (drop (i + 1) piece)))
     turn = passed ∙ ap (λ (bs : List ℕ). later i (feed (stepOn L) c bs)) (drop-next piece i h)
 
-    pub passed-more : isEvent v ≡ false → Passed c₀ piece d (i + 1)
+    pub passed-more : isEvent v ≡ false → Passed L c₀ piece d (i + 1)
     passed-more e =
-        subst (λ (x : Lent L). Passed c₀ piece x (i + 1)) (sym leaves)
+        subst (λ (x : Lent L). Passed L c₀ piece x (i + 1)) (sym leaves)
         (turn ∙ rw (told-none (stepOn L c (getD piece i 0) .1) (ap isEvent (sym tells) ∙ e)) (later-later i 1 _))
 
     ends : (e : Event (L .Message)) → stepOn L c (getD piece i 0) .1 ≡ some e
@@ -54,7 +51,7 @@ module _ (L : Link) where
         (λ j. (tells-is j, i + 1, leaves j)) ∙ sym (ap (answered L) (ends (w .0) (w .1)))
 
   -- and so does the end of the piece
-  pub passed-all : (c₀ c : Lent L) (piece : List ℕ) (i : ℕ) → i ≡ length piece → Passed c₀ piece c i → (told L none, i, c) ≡ answered L (feed (stepOn L) c₀ piece)
+  pub passed-all : (c₀ c : Lent L) (piece : List ℕ) (i : ℕ) → i ≡ length piece → Passed L c₀ piece c i → (told L none, i, c) ≡ answered L (feed (stepOn L) c₀ piece)
   passed-all c₀ c piece i h passed =
       let ends : feed (stepOn L) c₀ piece ≡ record { event = none; used = i; after = c } = passed ∙ rw (h, drop-length, add-zero) in
       sym (ap (answered L) ends)

@@ -7,10 +7,10 @@ use mathlib.Core.Option.{Option, none, some}
 use native.Mathlib.Omega.{arith}
 use lib.ListN.{length, length-append}
 use lib.Dec.{eqb, ltb}
-use borrow.Author.Tests.{eq-eqb, eqb-true, leb-true}
-use Rattle.runs.proofs.Cases.{by-ltb, and-both}
+use borrow.Author.Tests.{eq-eqb, ne-eqb, eqb-true, leb-true}
+use Rattle.runs.proofs.Cases.{by-eqb, by-ltb, and-both}
 use Rattle.framing.specs.Segment.{Segment, noiseAfter}
-use Rattle.framing.specs.State.{knownState, openAfter, stateAfter, stateOf}
+use Rattle.framing.specs.State.{knownState, openAfter, stateAfter, stateOf, afterNoise}
 use Rattle.framing.specs.declared.State.{State}
 use Rattle.framing.proofs.Segments.{wireOpt}
 
@@ -54,3 +54,21 @@ module _ {P M : Type 0} (modeOf : P → ℕ) (gathered held : P → List ℕ) (p
   pub count-within : (s after : State) (store : List ℕ) (b : ℕ) → s .count ≤ size
       → after ≡ stateAfter modeOf gathered held s (cut (phaseOf s store) b .0) (cut (phaseOf s store) b .1) → after .count ≤ size
   count-within s after store b h e = rw e (next (phaseOf s store) b (omega (arith, within s store)))
+
+-- a count that goes round is the same, whether what is added goes round first or not
+pub round-add : (a b : ℕ) → (a + b % 2 ^ 32) % 2 ^ 32 ≡ (a + b) % 2 ^ 32
+round-add a b = omega arith
+
+-- one byte of noise after another
+module _ (s : State) (n : ℕ) (e : s .mode ≡ 0) where
+  pub noise-mode : afterNoise s n .mode ≡ 0
+  noise-mode = by-eqb (λ (x : State). x .mode ≡ 0) n 0 (λ _. e) (λ _. refl)
+
+  pub noise-next : afterNoise (afterNoise s n) 1 ≡ afterNoise s (n + 1)
+  noise-next =
+      rw (ne-eqb (n + 1) 0 (omega arith))
+      (by-eqb (λ (x : State). hunted ((x .noise + 1) % 2 ^ 32) ≡ hunted ((s .noise + (n + 1)) % 2 ^ 32)) n 0
+      (λ z. ap hunted (omega arith)) (λ _. ap hunted (omega arith)))
+    where
+      hunted : ℕ → State
+      hunted k = record { mode = 0; count = 0; «open» = 0; noise = k }

@@ -17,6 +17,10 @@ freshState = record { mode = 0; count = 0; «open» = 0; noise = 0 }
 abbrev pub knownState : ℕ → ℕ → ℕ → State → Bool
 knownState modes hunting size s = ltb (s .mode) modes && cond (ltb (s .mode) hunting) (eqb (s .count) 0) (leb (s .count) size)
 
+-- the state after n bytes of noise in plain hunting: none change nothing, whatever stands in `open`
+abbrev pub afterNoise : State → ℕ → State
+afterNoise s n = cond (eqb n 0) s (record { mode = 0; count = 0; «open» = 0; noise = (s .noise + n) % 2 ^ 32 })
+
 -- the wire bytes held after a byte: those now held, where it came in plain hunting (mode 0) or closed a segment; else one more, in 32 bits
 abbrev pub openAfter : {M : Type 0} → Option (Segment M) → State → ℕ → ℕ
 openAfter none s held = cond (eqb (s .mode) 0) held ((s .«open» + 1) % 2 ^ 32)

@@ -4,7 +4,7 @@ pub mod refusal;
 
 ghost use mathlib.Core.Path.{_≡_};
 ghost use Prim.Native.Nat.{_+_, _%_, _^_};
-ghost use Rattle.framing.specs.State.{freshState, knownState};
+ghost use Rattle.framing.specs.State.{freshState, knownState, afterNoise};
 
 // The answer of a call that makes bytes: how many, or the number of a refusal.
 pub enum Answer {
@@ -86,6 +86,25 @@ pub fn add_noise(state: State, bytes: u32) -> State
         open: 0,
         noise: noise,
     }
+}
+
+// So many bytes passed in plain hunting, all of them noise; where there are none, the state stays as it came.
+pub fn pass_noise(state: State, bytes: usize) -> State
+    ensures { λ r. ⌜ r ≡ afterNoise state bytes ⌝ }
+{
+    if bytes == 0 {
+        state
+    } else {
+        add_noise(state, (bytes % 4294967296) as u32)
+    }
+}
+
+// So many bytes passed in an open frame, of which so many bytes are then gathered.
+pub fn pass_open(state: State, count: usize, bytes: usize) -> State
+    ensures { λ r. ⌜ r ≡ record { mode = state .mode; count = count; «open» = (state .«open» + bytes) % 2 ^ 32; noise = state .noise } ⌝ }
+{
+    let held = std::num::wrapping_add_u32(state.open, (bytes % 4294967296) as u32);
+    reopen(state, state.mode, count, held)
 }
 
 // The frame is over, by a message or by a refusal but 4: plain hunting.

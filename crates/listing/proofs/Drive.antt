@@ -1,11 +1,10 @@
 -- The loop over a piece does what `drivePiece` says: the part behind the used bytes is handed on until there is no event.
-use Prim.Native.Nat.{ℕ, zero, suc, _-_, _≤_, _<_}
+use Prim.Native.Nat.{ℕ, zero, suc, _≤_, _<_}
 use mathlib.Core.Path.{_≡_, refl, ap, sym, _∙_}
 use mathlib.Core.List.{List}
 use mathlib.Core.Option.{Option, none, some}
 use native.Mathlib.Omega.{arith}
-use lib.ListN.{length, take, drop, length-drop}
-use lib.Seq.{take-all}
+use lib.ListN.{length, drop, length-drop}
 use Rattle.framing.specs.Receiver.{Fed, onward, drivePiece}
 
 -- over any calls that use no more than the piece, and change nothing where an event uses no byte
@@ -51,7 +50,3 @@ module _ {C E : Type 0} (call : C → List ℕ → Fed E C) (within : (c : C) (b
 
       pub driven-stuck : (v : E) → call c rest .event ≡ some v → call c rest .used ≡ 0 → call c rest .after ≡ drivePiece call (suc (length piece)) c₀ piece .1
       driven-stuck v h u = idle c rest v h u ∙ sym (d .same ∙ stays v h u (d .fuel))
-
--- the part from a place to the end
-pub part-rest : (l : List ℕ) (a : ℕ) → take (length l - a) (drop a l) ≡ drop a l
-part-rest l a = take-all (length l - a) (drop a l) (simp length-drop (omega arith))

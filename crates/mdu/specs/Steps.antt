@@ -1,13 +1,13 @@
 -- What the receiver's private functions answer: the steps of a call.
-use Prim.Native.Nat.{ℕ, _+_, _-_, _%_, _^_, _≤_, _<_}
+use Prim.Native.Nat.{ℕ, _+_, _%_, _^_, _≤_, _<_}
 use mathlib.Core.Path.{_≡_}
 use mathlib.Core.Bool.{true}
 use mathlib.Core.List.{List}
 use mathlib.Core.Option.{Option}
-use lib.ListN.{length, drop}
-use Rattle.framing.specs.Receiver.{later, feed}
+use lib.ListN.{length}
 use Rattle.framing.specs.Segment.{Segment, eventOf}
-use Rattle.framing.specs.Link.{Lent, stepOn, told}
+use Rattle.framing.specs.Link.{Lent, told}
+use Rattle.framing.specs.Passing.{Leads}
 use Rattle.framing.specs.declared.State as Base
 use Rattle.mdu.specs.Frame.{lengthOk}
 use Rattle.mdu.specs.Frame as Frame
@@ -17,6 +17,7 @@ use Rattle.mdu.specs.declared.State.{State}
 use Rattle.mdu.specs.declared.Event.{Event}
 use Rattle.mdu.specs.declared.Event.the-variants.{Nothing}
 use Rattle.mdu.specs.declared.receiver.Stepped.{Stepped}
+use Rattle.mdu.specs.declared.receiver.Reached.{Reached}
 
 -- the frame is over
 abbrev pub endedWith : Base.State → Event → Stepped
@@ -51,11 +52,8 @@ pub record ToCome (k n : ℕ) : Type 0 where
 abbrev pub AtLast : State → Type 0
 AtLast s = 6 ≤ s .base .count → s .base .count ≡ 7 + s .length
 
--- from place i of a piece to place j the call goes on without an event; where bytes are left, a body is at its last
-pub record Leads (piece : List ℕ) (c : Lent link) (i : ℕ) (d : Lent link) (j : ℕ) : Type 0 where
-  pub onward : i ≤ j
-  pub within : j ≤ length piece
-  pub known : knownState (d .0) ≡ true
-  pub at-last : j < length piece → AtLast (d .0)
-  pub same-length : length (d .1) ≡ length (c .1)
-  pub passes : feed (stepOn link) c (drop i piece) ≡ later (j - i) (feed (stepOn link) d (drop j piece))
+-- from place i of a piece so many bytes are passed at once, without an event; where bytes are left, a body is at its last
+pub record Passes (piece : List ℕ) (c : Lent link) (i : ℕ) (r : Reached) (after : List ℕ) : Type 0 where
+  pub leads : Leads link piece c i (r .state, after) (r .next)
+  pub known : knownState (r .state) ≡ true
+  pub at-last : r .next < length piece → AtLast (r .state)

@@ -9,8 +9,9 @@ use super::writer;
 use runs::least;
 ghost use mathlib.Core.Path.{_≡_};
 ghost use mathlib.Core.Bool.{true};
+ghost use mathlib.Core.List.{List};
 ghost use mathlib.Core.Option.{some};
-ghost use Prim.Native.Nat.{_+_, _*_, _≤_, _<_};
+ghost use Prim.Native.Nat.{ℕ, _+_, _*_, _≤_, _<_};
 ghost use lib.ListN.{length, take};
 ghost use Rattle.runs.specs.Runs.{over};
 ghost use Rattle.framing.specs.Receiver.{feed};
@@ -18,7 +19,7 @@ ghost use Rattle.framing.specs.Segment.{eventOf};
 ghost use Rattle.framing.specs.Link.{isEvent, told, stepOn, answered};
 ghost use Rattle.mdu.specs.Rules.{hunting, head, tail, size, enter, finish, cut};
 ghost use Rattle.mdu.specs.Contract.{knownState, phaseOf, front, link, toldOf, answerOf};
-ghost use Rattle.mdu.specs.Steps.{endedWith, goneOn, Answers, Open, ToCome, AtLast, Leads};
+ghost use Rattle.mdu.specs.Steps.{endedWith, goneOn, Answers, Open, ToCome, AtLast, Passes};
 
 // What a byte makes: an event or none, and the state after it.
 struct Stepped {
@@ -214,7 +215,7 @@ fn made(event: Event) -> bool
 // The bytes of a body and its check value that the piece has from a place on, but for the last.
 fn pass_body(state: State, store: &mut [u8], piece: &[u8], from: usize) -> Reached
     requires { ⌜ Open state (now store) × ToCome (state .length) (state .base .count) × (from ≤ length (now piece)) ⌝ }
-    ensures { λ r. ⌜ Leads (now (piece .entry)) (state, now (store .entry)) from (r .state, now (store .exit)) (r .next) ⌝ }
+    ensures { λ r. ⌜ Passes (now (piece .entry)) (state, now (store .entry)) from r (now (store .exit)) ⌝ }
 {
     let base = state.base;
     let at = base.count;
@@ -231,12 +232,36 @@ fn pass_body(state: State, store: &mut [u8], piece: &[u8], from: usize) -> Reach
     }
 }
 
-// The bytes that are passed at once: those of a body, or none.
+// The noise from a place on, up to the next E3.
+fn pass_noise(state: State, piece: &[u8], from: usize) -> Reached
+    requires { ⌜ (knownState state ≡ true) × (state .base .mode ≡ 0) × (from ≤ length (now piece)) ⌝ }
+    ensures { λ r. ⌜ ((store : List ℕ) → Passes (now (piece .entry)) (state, store) from r store) ⌝ }
+{
+    let n = runs::count_before(0xE3, 0xE3, &piece[from..]);
+    if n == 0 {
+        return Reached {
+            state: state,
+            next: from,
+        };
+    }
+    Reached {
+        state: State {
+            base: framing::pass_noise(state.base, n),
+            length: 0,
+        },
+        next: from + n,
+    }
+}
+
+// The bytes that are passed at once: noise, those of a body, or none.
 fn advance(state: State, store: &mut [u8], piece: &[u8], from: usize) -> Reached
     requires { ⌜ (knownState state ≡ true) × (size ≤ length (now store)) × (from ≤ length (now piece)) ⌝ }
-    ensures { λ r. ⌜ Leads (now (piece .entry)) (state, now (store .entry)) from (r .state, now (store .exit)) (r .next) ⌝ }
+    ensures { λ r. ⌜ Passes (now (piece .entry)) (state, now (store .entry)) from r (now (store .exit)) ⌝ }
 {
     let base = state.base;
+    if base.mode == 0 {
+        return pass_noise(state, piece, from);
+    }
     if base.count < 6 {
         return Reached {
             state: state,

@@ -1,6 +1,6 @@
 -- Of the rules: `Allowed` has what the tests of fields say, `Cut` what a byte does, `Readback` that frames are read back, `Lawful` all that the
 -- claims need, `Theorems` the claims. Of the code: `And` has chains of tests, `Store` the store after a byte, `Judge` the end of a frame,
--- `Written` the frame in parts.
+-- `Written` the frame in parts, `Passing` bytes that are passed at once.
 pub mod Allowed
 pub mod Cut
 pub mod Readback
@@ -10,3 +10,4 @@ pub mod And
 pub mod Store
 pub mod Judge
 pub mod Written
+pub mod Passing

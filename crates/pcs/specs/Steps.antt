@@ -9,7 +9,8 @@ use lib.Dec.{eqb, ltb}
 use Rattle.framing.specs.Answer.{Outcome, done, refused}
 use Rattle.framing.specs.Segment.{Segment, eventOf}
 use Rattle.framing.specs.State.{stateAfter}
-use Rattle.framing.specs.Link.{Told, numbers, number, told}
+use Rattle.framing.specs.Link.{Lent, Told, numbers, number, told}
+use Rattle.framing.specs.Passing.{Leads}
 use Rattle.framing.specs.declared.State.{State}
 use Rattle.pcs.specs.Frame.{plainOk, receiverOk}
 use Rattle.pcs.specs.Frame as Frame
@@ -17,6 +18,7 @@ use Rattle.pcs.specs.Rules.{Phase, size, gathered, held, stated, asksCrc
 use Rattle.pcs.specs.Contract.{modeOf, link, toldOf}
 use Rattle.pcs.specs.declared.Message.{Message}
 use Rattle.pcs.specs.declared.Stepped.{Stepped}
+use Rattle.pcs.specs.declared.Reached.{Reached}
 
 -- the message of a struct's numbers with its data
 abbrev pub withData : Message → List ℕ → Frame.Message
@@ -67,3 +69,12 @@ pub record Open (s : State) (store : List ℕ) : Type 0 where
   pub mode : s .mode ≡ 0 → ⊥
   pub count : s .count ≤ size
   pub room : size ≤ length store
+
+-- an open frame, by its counts
+abbrev pub opened : ℕ → ℕ → ℕ → State
+opened count held noise = record { mode = 1; count = count; «open» = held; noise = noise }
+
+-- from place i of a piece so many bytes are passed at once, without an event
+pub record Passes (piece : List ℕ) (c : Lent link) (i : ℕ) (r : Reached) (after : List ℕ) : Type 0 where
+  pub leads : Leads link piece c i (r .state, after) (r .next)
+  pub count : r .state .count ≤ size

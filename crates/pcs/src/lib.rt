@@ -19,7 +19,7 @@ ghost use Rattle.framing.specs.Link.{isEvent, told, stepOn, answered, answer};
 ghost use Rattle.pcs.specs.Frame.{ok, frame};
 ghost use Rattle.pcs.specs.Rules.{hunting, inside, size, fieldsOk, messageWith, judge, gather, cut};
 ghost use Rattle.pcs.specs.Contract.{phaseOf, frontOf, numbersOf, dataOf, link, toldOf, answerOf};
-ghost use Rattle.pcs.specs.Steps.{faultOf, toldWith, Answers, Open};
+ghost use Rattle.pcs.specs.Steps.{faultOf, toldWith, Answers, Open, Passes};
 
 // The least store of a receiver: a header of 8 bytes, at most 1,171 packed bytes, the sum.
 const SIZE: usize = 1180;
@@ -51,6 +51,12 @@ pub struct Received {
 struct Stepped {
     event: Event,
     state: State,
+}
+
+// What is reached by passing bytes: the state, and the next place of the piece.
+struct Reached {
+    state: State,
+    next: usize,
 }
 
 // Writes the frame of a message at the start of the lent memory, and answers its length.
@@ -253,6 +259,56 @@ fn made(event: Event) -> bool
     }
 }
 
+// The noise from a place on, up to the next start mark.
+fn pass_noise(state: State, piece: &[u8], from: usize) -> Reached
+    requires { ⌜ (state .mode ≡ 0) × (state .count ≤ size) × (from ≤ length (now piece)) ⌝ }
+    ensures { λ r. ⌜ ((store : List ℕ) → Passes (now (piece .entry)) (state, store) from r store) ⌝ }
+{
+    let n = runs::count_before(fields::START, fields::START, &piece[from..]);
+    Reached {
+        state: framing::pass_noise(state, n),
+        next: from + n,
+    }
+}
+
+// The bytes of an open frame from a place on, up to a mark, the size or the end of the piece.
+fn pass_bytes(state: State, store: &mut [u8], piece: &[u8], from: usize) -> Reached
+    requires { ⌜ (state .mode ≡ 1) × (state .count ≤ size) × (size ≤ length (now store)) × (from ≤ length (now piece)) ⌝ }
+    ensures { λ r. ⌜ Passes (now (piece .entry)) (state, now (store .entry)) from r (now (store .exit)) ⌝ }
+{
+    let at = state.count;
+    let n = runs::copy_before(
+        fields::START,
+        fields::END,
+        &piece[from..],
+        store,
+        at,
+        SIZE - at,
+    );
+    Reached {
+        state: framing::pass_open(state, at + n, n),
+        next: from + n,
+    }
+}
+
+// The bytes that are passed at once: noise, or bytes of an open frame.
+fn advance(state: State, store: &mut [u8], piece: &[u8], from: usize) -> Reached
+    requires { ⌜ (state .count ≤ size) × (size ≤ length (now store)) × (from ≤ length (now piece)) ⌝ }
+    ensures { λ r. ⌜ Passes (now (piece .entry)) (state, now (store .entry)) from r (now (store .exit)) ⌝ }
+{
+    let mode = state.mode;
+    if mode == 0 {
+        return pass_noise(state, piece, from);
+    }
+    if mode == 1 {
+        return pass_bytes(state, store, piece, from);
+    }
+    Reached {
+        state: state,
+        next: from,
+    }
+}
+
 // The bytes of a piece, up to and including the first that makes an event.
 fn scan(state: State, store: &mut [u8], piece: &[u8]) -> Received
     requires { ⌜ (state .count ≤ size) × (size ≤ length (now store)) ⌝ }
@@ -260,8 +316,18 @@ fn scan(state: State, store: &mut [u8], piece: &[u8]) -> Received
 {
     let mut current = state;
     let mut i = 0;
-    while i < piece.len() {
-        let s = step(current, store, piece[i]);
+    loop {
+        let reached = advance(current, store, piece, i);
+        let passed = reached.state;
+        i = reached.next;
+        if i == piece.len() {
+            return Received {
+                event: Event::Nothing,
+                used: i,
+                state: passed,
+            };
+        }
+        let s = step(passed, store, piece[i]);
         let next = s.state;
         current = next;
         i += 1;
@@ -273,11 +339,6 @@ fn scan(state: State, store: &mut [u8], piece: &[u8]) -> Received
                 state: current,
             };
         }
-    }
-    Received {
-        event: Event::Nothing,
-        used: i,
-        state: current,
     }
 }
 

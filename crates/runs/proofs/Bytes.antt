@@ -1,16 +1,21 @@
 -- Lists of bytes, and their parts.
-use Prim.Native.Nat.{ℕ, zero, suc, _+_, _<_}
+use Prim.Native.Nat.{ℕ, zero, suc, _+_, _-_, _<_}
 use mathlib.Core.Path.{_≡_}
 use mathlib.Core.List.{List, [], _∷_, _++_}
+use native.Mathlib.Omega.{arith}
 use native.Mathlib.Numerals.{add-one}
 use lib.Dec.{lit<}
-use lib.ListN.{length, take, drop, getD}
-use lib.Seq.{drop-cons, getD-append-add, getD-drop}
+use lib.ListN.{length, take, drop, getD, length-drop}
+use lib.Seq.{take-all, drop-cons, getD-append-add, getD-drop}
 use Rattle.runs.specs.Runs.{Bytes}
 
 -- what is left of l at index i, as a loop that counts up by one meets it
 pub drop-next : (l : List ℕ) (i : ℕ) → i < length l → drop i l ≡ getD l i 0 ∷ drop (i + 1) l
 drop-next l i h = rw (add-one i) (drop-cons l i 0 h)
+
+-- the part of l from index i on, as a call that is lent it has it
+pub part-rest : (l : List ℕ) (i : ℕ) → take (length l - i) (drop i l) ≡ drop i l
+part-rest l i = take-all (length l - i) (drop i l) (simp length-drop (omega arith))
 
 pub bytes-left : (u v : List ℕ) → Bytes (u ++ v) → Bytes u
 bytes-left [] v h i = lit< tt

@@ -7,7 +7,7 @@ use native.Mathlib.Nat.{add-zero, zero-add}
 use native.Mathlib.Numerals.{add-one}
 use native.Mathlib.Omega.{arith}
 use lib.ListN.{length, take, drop, getD, set, length-append, take-append-drop}
-use lib.Seq.{sets, sets-eq, length-sets, length-take-le, take-append-seam, drop-at, drop-set-lt, getD-drop, set-split, append-snoc}
+use lib.Seq.{sets, sets-eq, length-sets, length-take-le, take-suc, take-append-seam, drop-at, drop-set-lt, getD-drop, set-split, append-snoc}
 use Rattle.runs.specs.Runs.{over}
 
 module _ {A : Type 0} where
@@ -15,6 +15,13 @@ module _ {A : Type 0} where
   sets-append [] ys l i = rw add-zero
   sets-append (x ∷ xs) ys l i =
       sets-append xs ys (set l i x) (suc i) ∙ ap (λ (k : ℕ). sets (sets (set l i x) (suc i) xs) k ys) (omega arith)
+
+  -- one element more of a run
+  pub sets-more : (l : List A) (i : ℕ) (run : List A) (k : ℕ) (z : A) → k < length run
+      → sets l i (take (k + 1) run) ≡ set (sets l i (take k run)) (i + k) (getD run k z)
+  sets-more l i run k z h =
+      rw (add-one k, take-suc run k z h) (sets-append (take k run) (getD run k z ∷ []) l i)
+      ∙ ap (λ (n : ℕ). set (sets l i (take k run)) (i + n) (getD run k z)) (length-take-le k run (omega arith))
 
   -- past its end a stored run changes nothing
   pub drop-sets : (v l : List A) (i n : ℕ) → i + length v ≤ n → drop n (sets l i v) ≡ drop n l

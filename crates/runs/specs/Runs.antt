@@ -1,8 +1,10 @@
 -- Runs: lists of bytes or of other elements, as every crate speaks of them. A run stored into memory from a place on is the
 -- library's `sets memory place run`.
-use Prim.Native.Nat.{ℕ, _≤_, _<_}
+use Prim.Native.Nat.{ℕ, suc, _≤_, _<_}
 use mathlib.Core.Path.{_≡_}
+use mathlib.Core.Bool.{Bool, cond, _&&_}
 use mathlib.Core.List.{List, [], _∷_, _++_}
+use lib.Dec.{leb}
 use lib.ListN.{length, drop, getD, getElem?}
 
 -- every element is a byte
@@ -21,3 +23,12 @@ Begins xs ys = (length xs ≤ length ys) × ((i : ℕ) → i < length xs → get
 unfoldable pub each : (ℕ → List ℕ) → List ℕ → List ℕ
 each f [] = []
 each f (b ∷ bs) = f b ++ each f bs
+
+-- a number from low to high
+abbrev pub between : ℕ → ℕ → ℕ → Bool
+between low high b = leb low b && leb b high
+
+-- how many elements of a run lie before the first from low to high; all of them where there is none
+unfoldable pub before : ℕ → ℕ → List ℕ → ℕ
+before low high [] = 0
+before low high (b ∷ bs) = cond (between low high b) 0 (suc (before low high bs))

@@ -1,9 +1,11 @@
 // Runs of bytes, for every crate above: definitions in specs/, laws in proofs/, and here numbers of up to four bytes, low byte first, read from and
-// stored in slices. No function asks anything of its caller: bytes that are not there are not read, and places that are not there not stored to.
+// stored in slices, and the bytes of a run before the first mark. No function asks anything of its caller: bytes that are not there are not read,
+// and places that are not there not stored to.
 ghost use mathlib.Core.Path.{_≡_};
-ghost use Prim.Native.Nat.{_-_, min};
-ghost use lib.ListN.{take, drop};
+ghost use Prim.Native.Nat.{_-_, _≤_, min};
+ghost use lib.ListN.{length, take, drop};
 ghost use lib.Seq.{sets};
+ghost use Rattle.runs.specs.Runs.{between, before};
 ghost use Rattle.runs.specs.Number.{number, bytesOf};
 
 // The smaller of two numbers.
@@ -46,4 +48,45 @@ pub fn put_number(out: &mut [u8], at: usize, size: usize, n: u32)
         rest = rest / 256;
         k += 1;
     }
+}
+
+// Whether a byte is one of the marks, which are the bytes from low to high.
+fn is_between(low: u8, high: u8, byte: u8) -> bool
+    ensures { λ r. ⌜ r ≡ between low high byte ⌝ }
+{
+    low <= byte && byte <= high
+}
+
+// How many bytes of a run lie before its first mark; all of them where it has none.
+pub fn count_before(low: u8, high: u8, s: &[u8]) -> usize
+    ensures count { λ r. ⌜ r ≡ before low high (now (s .entry)) ⌝ }
+    ensures within { λ r. ⌜ r ≤ length (now (s .entry)) ⌝ }
+{
+    let mut k = 0;
+    while k < s.len() {
+        if is_between(low, high, s[k]) {
+            return k;
+        }
+        k += 1;
+    }
+    k
+}
+
+// Stores the bytes of a run before its first mark from a place on, at most so many and as far as the slice goes, and tells how many.
+pub fn copy_before(low: u8, high: u8, s: &[u8], out: &mut [u8], at: usize, most: usize) -> usize
+    ensures count { λ r. ⌜ r ≡ min (min most (length (now (out .entry)) - at)) (before low high (now (s .entry))) ⌝ }
+    ensures within { λ r. ⌜ (r ≤ most) × (r ≤ length (now (s .entry))) ⌝ }
+    ensures stored { λ r. ⌜ now (out .exit) ≡ sets (now (out .entry)) at (take r (now (s .entry))) ⌝ }
+{
+    let stop = least(least(most, left(out.len(), at)), s.len());
+    let mut k = 0;
+    while k < stop {
+        let byte = s[k];
+        if is_between(low, high, byte) {
+            return k;
+        }
+        out[at + k] = byte;
+        k += 1;
+    }
+    k
 }

@@ -6,7 +6,7 @@ use native.Mathlib.Omega.{arith}
 use borrow.Author.Needs.{needs}
 use Rattle.listing.specs.Lines.{textOf}
 use Rattle.listing.specs.Receivers.{lineIn}
-use Rattle.listing.proofs.Drive.{part-rest}
+use Rattle.runs.proofs.Bytes.{part-rest}
 use Rattle.listing.proofs.Texts.{event-fits, stored-counts, stored-whole}
 use Rattle.listing.proofs.Piece.{Listing, listing-begin, listing-none, listing-stuck, listing-next, call-within}
 use Rattle.listing.proofs.list_piece.Statement.{statement}

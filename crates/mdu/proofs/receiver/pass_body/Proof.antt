@@ -3,7 +3,7 @@ use Prim.Native.Nat.{ℕ, _+_, _-_, _^_, _<_}
 use mathlib.Core.Path.{_≡_, ap, _∙_}
 use lib.ListN.{take, drop}
 use lib.Seq.{sets}
-use Rattle.mdu.proofs.Body.{leads-body}
+use Rattle.mdu.proofs.Body.{passes-body}
 use borrow.Author.Needs.{needs}
 use Rattle.mdu.proofs.receiver.pass_body.Statement.{statement}
 use Rattle.mdu.proofs.receiver.pass_body.Tie as tie
@@ -75,7 +75,7 @@ returns c =
     let at = a .state .base .count in
     let long : a .from + n - a .from ≡ n = omega arith in
     let fits : a .state .base .«open» < 2 ^ 32 = omega (arith, l .before .struct-known .given) in
-    leads-body (a .piece .now) (a .store .now) (p .put-bytes .last .0) (a .state) (record { base = c .reopen .result; length = a .state .length }) (a .from) n
+    passes-body (a .piece .now) (a .store .now) (p .put-bytes .last .0) (a .state) (record { base = c .reopen .result; length = a .state .length }) (a .from) n
     (s .pre .0 .mode) (s .pre .1) (s .pre .0 .room) fits (omega (arith, l .least .ensures)) (omega (arith, l .least .ensures, s .pre .1))
     (λ h. omega (arith, l .least .ensures)) (simp (c .reopen .ensures, c .before .wrapping-add-u32 .ensures))
     (p .put-bytes .ensures ∙ ap (λ (k : ℕ). sets (a .store .now) at (take k (drop (a .from) (a .piece .now)))) long)

@@ -5,11 +5,11 @@ use Prim.Native.Nat.{_≤_, _-_}
 use mathlib.Core.Path.{_≡_, refl, ap, sym, _∙_}
 use mathlib.Core.Bool.{true}
 use lib.ListN.{length, getD}
-use Rattle.framing.proofs.Loop.{Passed, passed-none, passed-more, passed-event, passed-all}
+use Rattle.framing.specs.Passing.{Passed}
+use Rattle.framing.proofs.Loop.{passed-none, passed-more, passed-event, passed-all}
 use Rattle.mdu.specs.Rules.{size}
 use Rattle.mdu.specs.Contract.{knownState, link, toldOf}
 use Rattle.mdu.proofs.Known.{known-next}
-use Rattle.mdu.proofs.Body.{leads-passed}
 use Rattle.mdu.proofs.receiver.scan.Statement.{statement}
 use Rattle.mdu.proofs.receiver.scan.Tie as tie
 
@@ -42,8 +42,7 @@ returns c =
     let l = g .before .before in
     let a = l .before .before .before .args in
     passed-all link (a .state, a .store .now) (g .advance .result .state, g .advance .last .1 .0) (a .piece .now) (g .advance .result .next) (c .if1 .taken)
-    (leads-passed (a .state, a .store .now) (l .loop .current, l .loop .store) (g .advance .result .state, g .advance .last .1 .0) (a .piece .now) (l .loop .i) (g .advance .result .next)
-    (l .loop .inv .4) (g .advance .ensures))
+    (g .advance .ensures .leads .passes (a .state, a .store .now) (l .loop .inv .4))
 
 -- src/receiver.rt:278:37
 shared-slice-read-step : tie.Need-shared-slice-read-step Inv-loop μ-loop
@@ -55,8 +54,8 @@ step-requires c κs =
     let g = c .before .before .before .before .before .before in
     let l = g .before .before in (
       g .advance .ensures .known,
-      omega (arith, g .advance .ensures .same-length, l .loop .inv),
-      g .advance .ensures .at-last (omega (arith, c .before .before .if1 .left, g .advance .ensures .within)),
+      omega (arith, g .advance .ensures .leads .same-length, l .loop .inv),
+      g .advance .ensures .at-last (omega (arith, c .before .before .if1 .left, g .advance .ensures .leads .within)),
     )
 
 -- src/receiver.rt:281:9
@@ -81,8 +80,8 @@ returns-2 c =
     let c₀ : Lent link = (a .state, a .store .now) in
     let d : Lent link = (g .advance .result .state, g .advance .last .1 .0) in
     passed-event link c₀ d (s .step .result .state, s .step .last .1 .0) (a .piece .now) (g .advance .result .next) (toldOf (s .step .result .event))
-    (omega (arith, s .before .before .before .if1 .left, g .advance .ensures .within))
-    (leads-passed c₀ (l .loop .current, l .loop .store) d (a .piece .now) (l .loop .i) (g .advance .result .next) (l .loop .inv .4) (g .advance .ensures))
+    (omega (arith, s .before .before .before .if1 .left, g .advance .ensures .leads .within))
+    (g .advance .ensures .leads .passes c₀ (l .loop .inv .4))
     (s .step .ensures .0 .tells) (λ j. (s .step .ensures .0 .state j, s .step .ensures .1 j)) (sym (c .before .made .ensures) ∙ c .if2 .taken)
 
 -- src/receiver.rt:267:5
@@ -100,12 +99,12 @@ loop-again c =
     let d : Lent link = (g .advance .result .state, g .advance .last .1 .0) in (
       omega arith,
       ap knownState (s .step .ensures .0 .state)
-          ∙ known-next (d .0) (d .1) (getD (a .piece .now) (g .advance .result .next) 0) (g .advance .ensures .known) (omega (arith, g .advance .ensures .same-length, l .loop .inv)),
-      s .step .kept .1 .0 ∙ g .advance .ensures .same-length ∙ l .loop .inv .2,
+          ∙ known-next (d .0) (d .1) (getD (a .piece .now) (g .advance .result .next) 0) (g .advance .ensures .known) (omega (arith, g .advance .ensures .leads .same-length, l .loop .inv)),
+      s .step .kept .1 .0 ∙ g .advance .ensures .leads .same-length ∙ l .loop .inv .2,
       l .loop .inv .3,
       passed-more link c₀ d (s .step .result .state, s .step .last .1 .0) (a .piece .now) (g .advance .result .next) (toldOf (s .step .result .event))
-          (omega (arith, s .before .before .before .if1 .left, g .advance .ensures .within))
-          (leads-passed c₀ (l .loop .current, l .loop .store) d (a .piece .now) (l .loop .i) (g .advance .result .next) (l .loop .inv .4) (g .advance .ensures))
+          (omega (arith, s .before .before .before .if1 .left, g .advance .ensures .leads .within))
+          (g .advance .ensures .leads .passes c₀ (l .loop .inv .4))
           (s .step .ensures .0 .tells) (λ j. (s .step .ensures .0 .state j, s .step .ensures .1 j)) (sym (c .before .made .ensures) ∙ c .if2 .left),
     )
 

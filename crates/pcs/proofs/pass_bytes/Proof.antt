@@ -1,0 +1,72 @@
+use borrow.Author.Needs.{needs}
+use native.Mathlib.Omega.{arith}
+use Prim.Native.Nat.{_+_, _-_, _%_, _^_, _<_}
+use mathlib.Core.Path.{_≡_, _∙_}
+use Rattle.framing.proofs.Passing.{gathers-leads}
+use Rattle.pcs.specs.Contract.{link}
+use Rattle.pcs.specs.Steps.{opened}
+use Rattle.pcs.proofs.Passing.{gathers-plain}
+use Rattle.pcs.proofs.pass_bytes.Statement.{statement}
+use Rattle.pcs.proofs.pass_bytes.Tie as tie
+
+sub-copy-before : tie.Need-sub-copy-before
+sub-copy-before c = search needs
+
+part-copy-before-start : tie.Need-part-copy-before-start
+part-copy-before-start c = search needs
+
+part-copy-before-end : tie.Need-part-copy-before-end
+part-copy-before-end c = search needs
+
+sub-copy-before-2 : tie.Need-sub-copy-before-2
+sub-copy-before-2 c = search needs
+
+copy-before-requires : tie.Need-copy-before-requires
+copy-before-requires c κs = search needs
+
+add-pass-open : tie.Need-add-pass-open
+add-pass-open c = search needs
+
+pass-open-requires : tie.Need-pass-open-requires
+pass-open-requires c κs = search needs
+
+add-t13 : tie.Need-add-t13
+add-t13 c = search needs
+
+same-length : tie.Need-same-length
+same-length c = search needs
+
+returns : tie.Need-returns
+returns c =
+    let f = c .before .before .before in
+    let k = f .before .before .before .before .before in
+    let a = k .args in
+    let h = f .copy-before .ensures in
+    let n = f .copy-before .result in
+    let after = f .copy-before .last .1 .1 .1 .0 in
+    let m = k .pre .0 in
+    let fits : a .state .«open» < 2 ^ 32 = omega (arith, k .good) in
+    let held : (a .state .«open» + n) % 2 ^ 32 ≡ (a .state .«open» + (a .from + n - a .from)) % 2 ^ 32 = omega arith in
+    record {
+      leads = gathers-leads link (a .piece .now) opened (a .state) (c .pass-open .result) (a .store .now) after (a .state .count) (a .state .«open») (a .state .noise)
+          (a .from) (a .state .count + n) (a .from + n) fits
+          (λ j. record { mode = m j; count = a .state .count; «open» = a .state .«open»; noise = a .state .noise })
+          (c .pass-open .ensures ∙ (λ j. record { mode = m j; count = a .state .count + n; «open» = held j; noise = a .state .noise }))
+          (gathers-plain (a .piece .now) (a .store .now) after (a .state .count) (a .from) n (k .pre .2) (omega (arith, h .1 .0)) (k .pre .3) (omega (arith, h .0)) (h .1 .1));
+      count = rw (c .pass-open .ensures) (omega (arith, h .1 .0));
+    }
+
+pub pass-bytes-spec : {M : Type 1} → statement M
+pass-bytes-spec =
+    tie.close
+    (tie.spec
+    sub-copy-before
+    part-copy-before-start
+    part-copy-before-end
+    sub-copy-before-2
+    copy-before-requires
+    add-pass-open
+    pass-open-requires
+    add-t13
+    same-length
+    returns)
