@@ -1,1 +1,4 @@
 pub mod Counted
+pub mod Stored
+pub mod Laid
+pub mod Line

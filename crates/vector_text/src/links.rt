@@ -1,26 +1,6 @@
-// The four links, by name and by number.
-use crate::words;
+// The four links, each by the first letter of its name.
+pub const PCS: u8 = b'p';
 
-// A link by number; 0 is none.
-pub const PCS: u8 = 1;
+pub const MDU: u8 = b'm';
 
-pub const MDU: u8 = 2;
-
-pub const DLE: u8 = 3;
-
-pub const EXPANSION: u8 = 4;
-
-// The link that the word behind the first names.
-pub fn link_of(line: &[u8]) -> u8 {
-    if words::is(line, 1, b"pcs") {
-        PCS
-    } else if words::is(line, 1, b"mdu") {
-        MDU
-    } else if words::is(line, 1, b"dle") {
-        DLE
-    } else if words::is(line, 1, b"expansion") {
-        EXPANSION
-    } else {
-        0
-    }
-}
+pub const DLE: u8 = b'd';

@@ -1,4 +1,4 @@
-// What is printed of an answer: words, each behind a space.
+// What is printed of an answer: words, each behind a space. None of these calls answers anything, and no contract can say what is written.
 use crate::memory;
 use framing::Answer;
 use libc::STDOUT_FILENO;

@@ -1,13 +1,17 @@
 // The words of a line, counted from 0. A word that is not there is empty: it stands for 0 and for no bytes.
 use crate::memory;
 use crate::memory::Content;
-ghost use Prim.Native.Nat.{_<_, _≤_};
-ghost use lib.ListN.{length};
-ghost use Rattle.vector_text.specs.Counted.{Counted};
+ghost use mathlib.Core.Path.{_≡_};
+ghost use mathlib.Core.Bool.{true};
+ghost use Prim.Native.Nat.{_≤_, _%_, _^_, min};
+ghost use lib.ListN.{length, take, drop};
+ghost use Rattle.vector_text.specs.Counted.{Puts};
+ghost use Rattle.vector_text.specs.Laid.{byteOf, laid};
+ghost use Rattle.vector_text.specs.Words.{wordsFrom, wordOf, firstOf, withDigit, decimalOf, numberOf, hexOf, unhexed, givenBy, example};
 
 // The place at which word k begins.
 fn start(line: &[u8], k: usize) -> usize
-    ensures { λ r. ⌜ r ≤ length (now (line .entry)) ⌝ }
+    ensures { λ r. ⌜ (r ≤ length (now (line .entry))) × (drop r (now (line .entry)) ≡ wordsFrom k (now (line .entry))) ⌝ }
 {
     let mut at = 0;
     let mut left = k;
@@ -22,14 +26,24 @@ fn start(line: &[u8], k: usize) -> usize
     at
 }
 
-fn word(line: &[u8], k: usize) -> &[u8] {
+fn word(line: &[u8], k: usize) -> &[u8]
+    ensures { λ r. ⌜ now r ≡ wordOf k (now (line .entry)) ⌝ }
+{
     let from = start(line, k);
     let to = bytes::scan::find(line, from, line.len(), b' ');
     &line[from..to]
 }
 
+pub fn is(line: &[u8], k: usize, name: &[u8]) -> bool
+    ensures { λ r. ⌜ (r ≡ true → wordOf k (now (line .entry)) ≡ now (name .entry)) × (wordOf k (now (line .entry)) ≡ now (name .entry) → r ≡ true) ⌝ }
+{
+    check::same(word(line, k), name)
+}
+
 // A line without the words `example N` at its front.
-pub fn call(line: &[u8]) -> &[u8] {
+pub fn call(line: &[u8]) -> &[u8]
+    ensures { λ r. ⌜ (wordOf 0 (now (line .entry)) ≡ example → now r ≡ wordsFrom 2 (now (line .entry))) × ((wordOf 0 (now (line .entry)) ≡ example → ⊥) → now r ≡ now (line .entry)) ⌝ }
+{
     if is(line, 0, b"example") {
         let from = start(line, 2);
         &line[from..]
@@ -38,81 +52,87 @@ pub fn call(line: &[u8]) -> &[u8] {
     }
 }
 
-pub fn is(line: &[u8], k: usize, name: &[u8]) -> bool {
-    check::same(word(line, k), name)
+fn with_digit(value: u64, b: u8) -> u64
+    ensures { λ r. ⌜ r ≡ withDigit value b ⌝ }
+{
+    if 48 <= b && b <= 57 {
+        value % 1_000_000_000 * 10 + memory::wide(b - 48)
+    } else {
+        value
+    }
 }
 
 // The number that the digits of a word make, whatever else stands in it.
-fn decimal(word: &[u8]) -> u64 {
+fn decimal(word: &[u8]) -> u64
+    ensures { λ r. ⌜ r ≡ decimalOf (now (word .entry)) ⌝ }
+{
     let mut value: u64 = 0;
     let mut i = 0;
     while i < word.len() {
-        let b = word[i];
-        if 48 <= b && b <= 57 {
-            value = value % 1_000_000_000 * 10 + memory::wide(b - 48);
-        }
+        value = with_digit(value, word[i]);
         i += 1;
     }
     value
 }
 
-fn number(line: &[u8], k: usize) -> u64 {
+fn number(line: &[u8], k: usize) -> u64
+    ensures { λ r. ⌜ r ≡ numberOf k (now (line .entry)) ⌝ }
+{
     decimal(word(line, k))
 }
 
-pub fn size(line: &[u8], k: usize) -> usize {
+pub fn size(line: &[u8], k: usize) -> usize
+    ensures { λ r. ⌜ r ≡ numberOf k (now (line .entry)) ⌝ }
+{
     number(line, k) as usize
 }
 
-pub fn number32(line: &[u8], k: usize) -> u32 {
+pub fn number32(line: &[u8], k: usize) -> u32
+    ensures { λ r. ⌜ r ≡ numberOf k (now (line .entry)) % 2 ^ 32 ⌝ }
+{
     (number(line, k) % 4294967296) as u32
 }
 
-pub fn number16(line: &[u8], k: usize) -> u16 {
+pub fn number16(line: &[u8], k: usize) -> u16
+    ensures { λ r. ⌜ r ≡ numberOf k (now (line .entry)) % 2 ^ 16 ⌝ }
+{
     (number(line, k) % 65536) as u16
 }
 
-pub fn byte(line: &[u8], k: usize) -> u8 {
+pub fn byte(line: &[u8], k: usize) -> u8
+    ensures { λ r. ⌜ r ≡ numberOf k (now (line .entry)) % 2 ^ 8 ⌝ }
+{
     (number(line, k) % 256) as u8
 }
 
-fn first_byte(word: &[u8]) -> u8 {
+fn first_of(word: &[u8]) -> u8
+    ensures { λ r. ⌜ r ≡ firstOf (now (word .entry)) ⌝ }
+{
     if 0 < word.len() { word[0] } else { 0 }
 }
 
-// The number of a word that may begin with a minus sign.
-pub fn signed(line: &[u8], k: usize) -> i32 {
-    let value = number32(line, k);
-    if first_byte(word(line, k)) == b'-' {
-        return negative(value);
-    }
-    if value < 2147483648 { value as i32 } else { 0 }
+// The first byte of a word.
+pub fn first(line: &[u8], k: usize) -> u8
+    ensures { λ r. ⌜ r ≡ firstOf (wordOf k (now (line .entry))) ⌝ }
+{
+    first_of(word(line, k))
 }
 
-// `!x` is -1 - x.
-fn negative(value: u32) -> i32 {
-    if value == 0 {
-        return 0;
-    }
-    if value <= 2147483648 {
-        !((value - 1) as i32)
+fn hex_digit(b: u8) -> u8
+    ensures { λ r. ⌜ (r ≡ hexOf b) × (r ≤ 15) ⌝ }
+{
+    if 48 <= b && b <= 57 {
+        b - 48
+    } else if 65 <= b && b <= 70 {
+        b - 55
     } else {
         0
     }
 }
 
-fn hex_digit(b: u8) -> u8
-    ensures { λ r. ⌜ r < 16 ⌝ }
-{
-    match b {
-        48..=57 => b - 48,
-        65..=70 => b - 55,
-        _ => 0,
-    }
-}
-
+// The bytes of a word in hex, as far as there is room.
 fn unhex(word: &[u8], out: &mut [u8]) -> usize
-    ensures { λ r. ⌜ Counted r (now (out .exit)) ⌝ }
+    ensures { λ r. ⌜ Puts (take (length (now (out .entry))) (unhexed (now (word .entry)))) (now (out .entry)) (now (out .exit)) r ⌝ }
 {
     let most = runs::least(word.len() / 2, out.len());
     let mut n = 0;
@@ -123,27 +143,24 @@ fn unhex(word: &[u8], out: &mut [u8]) -> usize
     n
 }
 
-fn laid(content: Content, count: usize, out: &mut [u8]) -> usize
-    ensures { λ r. ⌜ Counted r (now (out .exit)) ⌝ }
+// So many bytes of a content, as far as there is room.
+fn lay(content: Content, count: usize, out: &mut [u8]) -> usize
+    ensures { λ r. ⌜ Puts (laid (byteOf content) (min count (length (now (out .entry))))) (now (out .entry)) (now (out .exit)) r ⌝ }
 {
-    memory::fill(content, out);
-    memory::within(count, out)
+    let n = memory::within(count, out);
+    memory::fill(content, &mut out[..n]);
+    n
 }
 
 // Puts the bytes of a word at the start of out and answers how many. The last frame is `frame`.
 pub fn bytes(line: &[u8], k: usize, frame: &[u8], out: &mut [u8]) -> usize
-    ensures { λ r. ⌜ Counted r (now (out .exit)) ⌝ }
+    ensures { λ r. ⌜ Puts (givenBy (wordOf k (now (line .entry))) (now (frame .entry)) (length (now (out .entry)))) (now (out .entry)) (now (out .exit)) r ⌝ }
 {
     let it = word(line, k);
-    if check::same(it, b"frame") {
-        return memory::copy(frame, out);
+    match first_of(it) {
+        b'f' => memory::copy(frame, out),
+        b'r' => lay(Content::Run, decimal(it) as usize, out),
+        b's' => lay(Content::Same, decimal(it) as usize, out),
+        _ => unhex(it, out),
     }
-    let first = first_byte(it);
-    if first == b'r' {
-        return laid(Content::Run, decimal(it) as usize, out);
-    }
-    if first == b'f' {
-        return laid(Content::Fives, decimal(it) as usize, out);
-    }
-    unhex(it, out)
 }

@@ -1,7 +1,6 @@
 // Lines that name a section, and those of the links' writers.
 use crate::kept::Kept;
 use framing::Answer;
-use vector_text::links;
 use vector_text::links::DLE;
 use vector_text::links::MDU;
 use vector_text::links::PCS;
@@ -109,7 +108,7 @@ pub(crate) fn answer(line: &[u8], kept: Kept, frame: &mut [u8]) -> Kept {
     }
     let mut after = kept;
     if words::is(line, 0, b"section") {
-        after.link = links::link_of(line);
+        after.link = words::first(line, 1);
     }
     after
 }

@@ -138,12 +138,33 @@ fn write_unsigned(line: &[u8], out: &mut [u8]) -> Answer {
     )
 }
 
+// The number of a word that may begin with a minus sign.
+fn signed(line: &[u8], k: usize) -> i32 {
+    let value = words::number32(line, k);
+    if words::first(line, k) == b'-' {
+        return negative(value);
+    }
+    if value < 2147483648 { value as i32 } else { 0 }
+}
+
+// `!x` is -1 - x.
+fn negative(value: u32) -> i32 {
+    if value == 0 {
+        return 0;
+    }
+    if value <= 2147483648 {
+        !((value - 1) as i32)
+    } else {
+        0
+    }
+}
+
 fn write_signed(line: &[u8], out: &mut [u8]) -> Answer {
     let mut fares: [i32; 1100] = [0; 1100];
-    fares[0] = words::signed(line, 8);
-    fares[1] = words::signed(line, 9);
-    fares[2] = words::signed(line, 10);
-    fares[3] = words::signed(line, 11);
+    fares[0] = signed(line, 8);
+    fares[1] = signed(line, 9);
+    fares[2] = signed(line, 10);
+    fares[3] = signed(line, 11);
     let n = within_signed(words::size(line, 7), &fares);
     record::write_signed(
         words::byte(line, 2),

@@ -1,5 +1,4 @@
 // Lines of the host's calls on a whole frame.
-use vector_text::links;
 use vector_text::links::DLE;
 use vector_text::links::MDU;
 use vector_text::links::PCS;
@@ -28,7 +27,7 @@ fn answer_read(line: &[u8]) {
     let mut store = io::buffer();
     let n = words::bytes(line, 2, b"", &mut frame);
     let room = memory::within(words::size(line, 4), &store);
-    show_read(links::link_of(line), &frame[..n], &mut store[..room]);
+    show_read(words::first(line, 1), &frame[..n], &mut store[..room]);
 }
 
 pub(crate) fn answer(line: &[u8]) {

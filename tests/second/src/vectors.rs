@@ -9,7 +9,7 @@
 //!
 //! A line is words with one space between them. Numbers are decimal. BYTES are
 //! upper-case hex without spaces; `-` stands for none, `runN` for N bytes of
-//! which byte k is (7k + 3) modulo 256, `fillN` for N bytes 05, `frame` for the
+//! which byte k is (7k + 3) modulo 256, `sameN` for N bytes 05, `frame` for the
 //! frame that the last successful `write` or `write-error` line left. Where a
 //! frame or data would be printed and has more than 64 bytes, `long` is printed
 //! instead.
@@ -193,8 +193,8 @@ fn given_run(length: usize) -> Given {
     Given { word: format!("run{length}"), bytes: run(length) }
 }
 
-fn given_fill(length: usize) -> Given {
-    Given { word: format!("fill{length}"), bytes: vec![5; length] }
+fn given_same(length: usize) -> Given {
+    Given { word: format!("same{length}"), bytes: vec![5; length] }
 }
 
 /// A writer called with numbers, bytes and memory.
@@ -536,7 +536,7 @@ fn pcs_section() -> (Lines, Lines) {
     // 5 at one byte more than the size; 4 in the middle.
     s.fresh(Pcs::SIZE);
     s.receive::<Pcs>(&[253]);
-    s.receive_given::<Pcs>(given_fill(1180));
+    s.receive_given::<Pcs>(given_same(1180));
     s.receive::<Pcs>(&[11, 12]);
     s.receive::<Pcs>(&[12, 253]);
     s.receive::<Pcs>(&[9, 253, 254]);
@@ -660,7 +660,7 @@ fn dle_section() -> (Lines, Lines) {
     for last in [&[5][..], &[0x10, 0x10], &[0x10, 0x05], &[0x10, 0x02], &[0x10, 0x03]] {
         s.fresh(Dle::SIZE);
         s.receive::<Dle>(&[0x10, 0x02]);
-        s.receive_given::<Dle>(given_fill(258));
+        s.receive_given::<Dle>(given_same(258));
         s.receive::<Dle>(last);
     }
     s.odd::<Dle>(&[
@@ -742,7 +742,7 @@ fn expansion_section() -> (Lines, Lines) {
     for last in [&[5][..], &[0xFF, 0x00], &[0xFF, 0x05], &[0xFD], &[0xFE]] {
         s.fresh(Expansion::SIZE);
         s.receive::<Expansion>(&[0xFD]);
-        s.receive_given::<Expansion>(given_fill(1032));
+        s.receive_given::<Expansion>(given_same(1032));
         s.receive::<Expansion>(last);
     }
     s.odd::<Expansion>(&[

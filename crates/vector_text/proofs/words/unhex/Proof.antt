@@ -1,14 +1,19 @@
+use Prim.Native.Nat.{ℕ, _+_, _*_, _-_, _/_, _<_, min}
+use mathlib.Core.Path.{_≡_, sym, ap₂, _∙_}
 use native.Mathlib.Omega.{arith}
-use Rattle.vector_text.proofs.Counted.{counted}
+use denote.Ref.{now}
+use lib.ListN.{length, take, getD}
 use borrow.Author.Needs.{needs}
-use Prim.Native.Nat.{_-_, _/_, _≤_}
-use mathlib.Core.Path.{_≡_}
-use lib.ListN.{length}
+use Rattle.vector_text.specs.Words.{hexOf, unhexed}
+use Rattle.vector_text.proofs.Counted.{puts-so}
+use Rattle.vector_text.proofs.Line.{whole-length, whole-at}
+use Rattle.vector_text.proofs.Stored.{Stored, stored-none, stored-next, stored-all}
 use Rattle.vector_text.proofs.words.unhex.Statement.{statement}
 use Rattle.vector_text.proofs.words.unhex.Tie as tie
 
 abbrev Inv-loop : tie.InvT-loop
-Inv-loop word out₀ most n₀ out n = (n ≤ most) × (most ≤ length word / 2) × (length out ≡ length out₀) × (most ≤ length out₀)
+Inv-loop word out₀ most n₀ out n =
+    (most ≡ min (length word / 2) (length out₀)) × Stored out₀ (take (length out₀) (unhexed word)) n out
 
 abbrev μ-loop : tie.MeasureT-loop
 μ-loop word out₀ most n₀ out n = most - n
@@ -17,7 +22,9 @@ least-requires : tie.Need-least-requires Inv-loop μ-loop
 least-requires c κs = search needs
 
 loop-holds : tie.Need-loop-holds Inv-loop μ-loop
-loop-holds c = search needs
+loop-holds c =
+    let a = c .before .before .before .args in
+    (c .least .ensures, stored-none (omega (arith, whole-length (now (a .word)) (length (now (a .out))))))
 
 mul-hex-digit : tie.Need-mul-hex-digit Inv-loop μ-loop
 mul-hex-digit c = search needs
@@ -47,7 +54,9 @@ add-out : tie.Need-add-out Inv-loop μ-loop
 add-out c = search needs
 
 slice-write-out : tie.Need-slice-write-out Inv-loop μ-loop
-slice-write-out c = search needs
+slice-write-out c =
+    let l = c .before .before .before .before .before .loop in
+    omega (arith, l .inv .0, l .inv .1 .long)
 
 add-n : tie.Need-add-n Inv-loop μ-loop
 add-n c = search needs
@@ -56,13 +65,26 @@ loop-less : tie.Need-loop-less Inv-loop μ-loop
 loop-less c = search needs
 
 loop-again : tie.Need-loop-again Inv-loop μ-loop
-loop-again c = search needs
+loop-again c =
+    let l = c .before .before .before .before .before .loop in
+    let a = c .before .before .before .before .before .before .before .before .before .args in
+    let word = now (a .word) in
+    let room = length (now (a .out)) in
+    let less : l .n < min (length word / 2) room = omega (arith, l .inv .0) in
+    let stored : hexOf (getD word (2 * l .n) 0) * 16 + hexOf (getD word (2 * l .n + 1) 0) ≡ getD (take room (unhexed word)) (l .n) 0 = sym (whole-at word room (l .n) less) in
+    (l .inv .0, stored-next (l .inv .1) (omega (arith, whole-length word room, less)) (ap₂ (λ (x y : ℕ). x * 16 + y) (c .before .before .hex-digit .ensures .0) (c .hex-digit2 .ensures .0) ∙ stored))
 
 same-length : tie.Need-same-length Inv-loop μ-loop
-same-length c = search needs
+same-length c = c .before .loop .inv .1 .long
 
 returns : tie.Need-returns Inv-loop μ-loop
-returns c = counted _ _ (omega arith)
+returns c =
+    let l = c .before .loop in
+    let a = c .before .before .before .before .before .args in
+    let word = now (a .word) in
+    let room = length (now (a .out)) in
+    let all : l .n ≡ length (take room (unhexed word)) = omega (arith, whole-length word room, l .inv .0, l .inv .1) in
+    puts-so (take room (unhexed word)) (now (a .out)) (l .out) (l .n) (omega (arith, whole-length word room)) all (stored-all (l .inv .1) all)
 
 pub unhex-spec : {M : Type 1} → statement M
 unhex-spec =
