@@ -29,6 +29,7 @@ module _ (line : List ℕ) (at end : ℕ) (h : at ≤ length line) (e : end ≡ 
   space = ap (indexOf 32) (sym (slice-rest at line)) ∙ omega arith
 
   pub word-is : (k : ℕ) → drop at line ≡ wordsFrom k line → take (end - at) (drop at line) ≡ wordOf k line
+  unfolding wordOf
   word-is k s = ap (λ (n : ℕ). take n (drop at line)) (sym space) ∙ ap (λ (w : List ℕ). take (indexOf 32 w) w) s
 
   module _ (k : ℕ) where
@@ -103,15 +104,19 @@ unhexed-at (a ∷ b ∷ bs) (suc n) h =
 -- what a word stands for, by its first letter
 module _ (word frame : List ℕ) (room : ℕ) where
   pub given-frame : firstOf word ≡ 102 → givenBy word frame room ≡ fitted room frame
+  unfolding givenBy
   given-frame h = rw h
 
   pub given-run : firstOf word ≡ 114 → givenBy word frame room ≡ laid runByte (min (decimalOf word) room)
+  unfolding givenBy
   given-run h = rw h
 
   pub given-same : firstOf word ≡ 115 → givenBy word frame room ≡ laid sameByte (min (decimalOf word) room)
+  unfolding givenBy
   given-same h = rw h
 
   pub given-hex : (firstOf word ≡ 102 → ⊥) → (firstOf word ≡ 114 → ⊥) → (firstOf word ≡ 115 → ⊥) → givenBy word frame room ≡ take room (unhexed word)
+  unfolding givenBy
   given-hex f r s = simp (ne-eqb (firstOf word) 102 f, ne-eqb (firstOf word) 114 r, ne-eqb (firstOf word) 115 s)
 
 -- the bytes of a word in hex, as far as there is room

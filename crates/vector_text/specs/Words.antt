@@ -13,7 +13,7 @@ wordsFrom zero line = line
 wordsFrom (suc k) line = wordsFrom k (drop (suc (indexOf 32 line)) line)
 
 -- word k: the bytes up to a space
-abbrev pub wordOf : ℕ → List ℕ → List ℕ
+unfoldable pub wordOf : ℕ → List ℕ → List ℕ
 wordOf k line = take (indexOf 32 (wordsFrom k line)) (wordsFrom k line)
 
 -- the first byte of a word, 0 where it has none
@@ -33,7 +33,7 @@ abbrev pub decimalOf : List ℕ → ℕ
 decimalOf word = decimalFrom 0 word
 
 -- the number of word k
-abbrev pub numberOf : ℕ → List ℕ → ℕ
+unfoldable pub numberOf : ℕ → List ℕ → ℕ
 numberOf k line = decimalOf (wordOf k line)
 
 -- the value of a hex digit in upper case; any other character stands for 0
@@ -52,7 +52,7 @@ fitted room bytes = cond (leb (length bytes) room) bytes []
 
 -- the bytes that a word stands for, by its first letter: of `frame` the last frame, of `runN` and `sameN` so many bytes as far as there
 -- is room, of any other word those in hex
-abbrev pub givenBy : List ℕ → List ℕ → ℕ → List ℕ
+unfoldable pub givenBy : List ℕ → List ℕ → ℕ → List ℕ
 givenBy word frame room =
     cond (eqb (firstOf word) 102) (fitted room frame)
     (cond (eqb (firstOf word) 114) (laid runByte (min (decimalOf word) room))

@@ -1,6 +1,6 @@
 use mathlib.Core.Path.{ap, _∙_}
 use borrow.Author.Needs.{needs}
-use Rattle.vector_text.specs.Words.{decimalOf}
+use Rattle.vector_text.specs.Words.{decimalOf, numberOf}
 use Rattle.vector_text.proofs.words.number.Statement.{statement}
 use Rattle.vector_text.proofs.words.number.Tie as tie
 
@@ -11,6 +11,7 @@ decimal-requires : tie.Need-decimal-requires
 decimal-requires c κs = search needs
 
 returns : tie.Need-returns
+unfolding numberOf
 returns c = c .decimal .ensures ∙ ap decimalOf (c .before .word .ensures)
 
 pub number-spec : {M : Type 1} → statement M
