@@ -119,8 +119,8 @@ check-value zero p start top fits hs u v hu hv hl w ne e = absurd (omega arith)
 check-value (suc m) p start top fits hs u v hu hv hl w ne e =
     let width : 8 * suc m ≡ suc (8 * suc m - 1) = omega arith in
     ne
-    (from-place (8 * suc m - 1) p (omega arith) top (rw width at fits) (w .k) (suc m) u v start (omega arith) hl hu hv
-    (rw width at hs) (λ i hi. byte-at u v i (w .below i hi)) (λ i hi. byte-at u v i (w .above i hi)) e)
+    (from-place (8 * suc m - 1) p (omega arith) (omega arith) (rw width at fits) (w .k) (suc m) u v start (omega arith) hl hu hv
+    (rw width at hs) (λ i hi. byte-at u v i (w .below i hi)) (λ i hi. byte-at u v i (w .above i (omega arith))) e)
 
 pub crc16-detects : Crc16Detects
 crc16-detects = check-value 2 0xA001 0 (lit≤ tt) (lit< tt) (lit< tt)

@@ -100,15 +100,30 @@ fn print_end(receiver: Receiver) {
     print_after(written, &out[..m]);
 }
 
+// Reads into a memory, again where a signal came before the first byte, and answers what the last read did: a count, 0 at the end of the
+// input, or a negative number. A proved loop has to end, so it counts its turns down, from a number that no run uses up.
+fn read_some(out: &mut [u8]) -> isize {
+    let mut got: isize = -1;
+    let mut turns = u64::MAX;
+    while turns > 0 {
+        got = libc::read(STDIN_FILENO, out);
+        if got >= 0 || os::errno() != libc::EINTR {
+            return got;
+        }
+        turns -= 1;
+    }
+    got
+}
+
 // Lists the wire bytes up to the end of the input. Where a read fails or a line cannot be written, nothing more is: the counts of a capture
-// that was not read to its end would be wrong. A proved loop has to end, so it counts its turns down, from a number that no run uses up.
+// that was not read to its end would be wrong. Its turns are counted down too.
 fn list_all(fresh: Receiver) {
     let mut store = [0u8; STORE];
     let mut piece = io::large_buffer();
     let mut current = fresh;
     let mut turns = u64::MAX;
     while turns > 0 {
-        let got = libc::read(STDIN_FILENO, &mut piece);
+        let got = read_some(&mut piece);
         if got < 0 {
             return;
         }
@@ -144,7 +159,7 @@ fn print_refused(number: u8) {
 
 fn main() {
     let mut first = [0u8; 1];
-    if io::read_full(STDIN_FILENO, &mut first) == 0 {
+    if read_some(&mut first) <= 0 {
         print_refused(framing::refusal::WRONG_FIELD);
         return;
     }

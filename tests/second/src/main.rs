@@ -25,12 +25,14 @@ use std::env;
 use std::io::{self, Read, Write};
 use std::path::Path;
 use std::process::ExitCode;
+use vectors::Part;
 
 const USAGE: &str = "usage: second listing < input
        second compare SEED COUNT
        second captures DIR SEED COUNT
-       second calls [--whole]
-       second vectors [--whole]";
+       second calls PART
+       second vectors PART
+PART is values, links or records";
 
 #[cfg(feature = "host")]
 fn run_compare(seed: u64, count: u64) -> ExitCode {
@@ -76,6 +78,16 @@ fn print_all(text: &str) -> ExitCode {
     }
 }
 
+fn print_part(lines: fn(Part) -> String, name: &str) -> ExitCode {
+    match Part::named(name) {
+        Some(part) => print_all(&lines(part)),
+        None => {
+            eprintln!("{USAGE}");
+            ExitCode::from(2)
+        }
+    }
+}
+
 fn main() -> ExitCode {
     let arguments: Vec<String> = env::args().skip(1).collect();
     let words: Vec<&str> = arguments.iter().map(String::as_str).collect();
@@ -88,10 +100,8 @@ fn main() -> ExitCode {
             }
             print_all(&listing::listing(&input))
         }
-        ["calls"] => print_all(&vectors::calls(false)),
-        ["calls", "--whole"] => print_all(&vectors::calls(true)),
-        ["vectors"] => print_all(&vectors::vectors(false)),
-        ["vectors", "--whole"] => print_all(&vectors::vectors(true)),
+        ["calls", part] => print_part(vectors::calls, part),
+        ["vectors", part] => print_part(vectors::vectors, part),
         ["compare", seed, count] => match (seed.parse(), count.parse()) {
             (Ok(seed), Ok(count)) => run_compare(seed, count),
             _ => {

@@ -1,14 +1,15 @@
-//! The calls that the program `vectors` makes, and what it prints of them.
+//! The calls that the programs of vectors make, and what they print of them.
 //!
 //! # Format
-//! `second calls` prints a call a line: the program's standard input. `second
-//! vectors` prints the same lines, each followed by what the call answered: what the
-//! program has to print. Below a bar, which is not printed, stands between the two.
-//! With `--whole` both print one section more, the host's calls.
+//! `second calls PART` prints a call a line: the standard input of the program
+//! `vectors_PART`. `second vectors PART` prints the same lines, each followed by what
+//! the call answered: what the program has to print. Below a bar, which is not
+//! printed, stands between the two. PART is `values` (sections `crc`, `whole` and most
+//! of `examples`), `links` (those of the links) or `records` (all others).
 //!
 //! A line is words with one space between them. Numbers are decimal. BYTES are
 //! upper-case hex without spaces; `-` stands for none, `runN` for N bytes of
-//! which byte k is (7k + 3) modulo 256, `fillN` for N bytes 05, `frame` for the
+//! which byte k is (7k + 3) modulo 256, `sameN` for N bytes 05, `frame` for the
 //! frame that the last successful `write` or `write-error` line left. Where a
 //! frame or data would be printed and has more than 64 bytes, `long` is printed
 //! instead.
@@ -78,7 +79,7 @@
 //!     view BYTES | ANSWER                            ANSWER `type T count C` or `refused 16`
 //!     view-element SIGN BYTES T C K | ANSWER         a view with these fields, element K
 //!
-//! The host's call on a whole frame (section `whole`, with `--whole` only)
+//! The host's call on a whole frame (section `whole`)
 //!     whole LINK BYTES room R | answer A store MIX
 //!         with a filled store of R bytes; A is the 64-bit answer
 //!
@@ -97,6 +98,25 @@ use crate::record;
 use crate::stream::{self, Event, Link, State};
 use crate::sum;
 use crate::whole;
+
+/// One of the programs.
+#[derive(Clone, Copy, PartialEq)]
+pub enum Part {
+    Values,
+    Links,
+    Records,
+}
+
+impl Part {
+    pub fn named(name: &str) -> Option<Part> {
+        match name {
+            "values" => Some(Part::Values),
+            "links" => Some(Part::Links),
+            "records" => Some(Part::Records),
+            _ => None,
+        }
+    }
+}
 
 /// Lines so far: the calls alone, and each with its answer.
 #[derive(Default)]
@@ -173,8 +193,8 @@ fn given_run(length: usize) -> Given {
     Given { word: format!("run{length}"), bytes: run(length) }
 }
 
-fn given_fill(length: usize) -> Given {
-    Given { word: format!("fill{length}"), bytes: vec![5; length] }
+fn given_same(length: usize) -> Given {
+    Given { word: format!("same{length}"), bytes: vec![5; length] }
 }
 
 /// A writer called with numbers, bytes and memory.
@@ -390,7 +410,7 @@ fn value_word<T: ToString>(result: Result<T, u8>) -> String {
     }
 }
 
-fn examples_section() -> Lines {
+fn examples_section(part: Part) -> Lines {
     let sum = |bytes: &[u8]| (format!("sum {}", hex(bytes)), sum::pcs(bytes).to_string());
     let crc16 = |bytes: &[u8]| (format!("crc16 {}", hex(bytes)), hex(&crc::crc16(bytes).to_be_bytes()));
     let packed = [42, 87, 81, 81, 128, 128, 128, 108];
@@ -414,7 +434,9 @@ fn examples_section() -> Lines {
     ];
     let mut lines = section("examples");
     for (index, (call, answer)) in rows.iter().enumerate() {
-        lines.add(&format!("example {} {call}", index + 1), answer);
+        if call.starts_with("element") == (part == Part::Records) {
+            lines.add(&format!("example {} {call}", index + 1), answer);
+        }
     }
     lines
 }
@@ -514,7 +536,7 @@ fn pcs_section() -> (Lines, Lines) {
     // 5 at one byte more than the size; 4 in the middle.
     s.fresh(Pcs::SIZE);
     s.receive::<Pcs>(&[253]);
-    s.receive_given::<Pcs>(given_fill(1180));
+    s.receive_given::<Pcs>(given_same(1180));
     s.receive::<Pcs>(&[11, 12]);
     s.receive::<Pcs>(&[12, 253]);
     s.receive::<Pcs>(&[9, 253, 254]);
@@ -638,7 +660,7 @@ fn dle_section() -> (Lines, Lines) {
     for last in [&[5][..], &[0x10, 0x10], &[0x10, 0x05], &[0x10, 0x02], &[0x10, 0x03]] {
         s.fresh(Dle::SIZE);
         s.receive::<Dle>(&[0x10, 0x02]);
-        s.receive_given::<Dle>(given_fill(258));
+        s.receive_given::<Dle>(given_same(258));
         s.receive::<Dle>(last);
     }
     s.odd::<Dle>(&[
@@ -720,7 +742,7 @@ fn expansion_section() -> (Lines, Lines) {
     for last in [&[5][..], &[0xFF, 0x00], &[0xFF, 0x05], &[0xFD], &[0xFE]] {
         s.fresh(Expansion::SIZE);
         s.receive::<Expansion>(&[0xFD]);
-        s.receive_given::<Expansion>(given_fill(1032));
+        s.receive_given::<Expansion>(given_same(1032));
         s.receive::<Expansion>(last);
     }
     s.odd::<Expansion>(&[
@@ -1064,33 +1086,55 @@ fn records_section() -> Lines {
     make.lines
 }
 
-/// All lines; the host's calls only if they are asked for.
-fn lines(with_whole: bool) -> Lines {
+/// The sections of the links, each with the lines of its whole frames.
+fn link_sections() -> [(Lines, Lines); 4] {
+    [pcs_section(), mdu_section(), dle_section(), expansion_section()]
+}
+
+fn values_lines() -> Lines {
     let mut lines = crc_section();
-    lines.append(examples_section());
-    let mut whole = section("whole");
-    for (link, host) in [pcs_section(), mdu_section(), dle_section(), expansion_section()] {
-        lines.append(link);
-        whole.append(host);
+    lines.append(examples_section(Part::Values));
+    lines.append(section("whole"));
+    for (_, whole) in link_sections() {
+        lines.append(whole);
     }
+    lines
+}
+
+fn links_lines() -> Lines {
+    let mut lines = Lines::default();
+    for (link, _) in link_sections() {
+        lines.append(link);
+    }
+    lines
+}
+
+fn records_lines() -> Lines {
+    let mut lines = examples_section(Part::Records);
     lines.append(gate_section());
     lines.append(records_section());
     lines.append(views_section());
-    if with_whole {
-        lines.append(whole);
-    }
+    lines
+}
+
+fn lines(part: Part) -> Lines {
+    let mut lines = match part {
+        Part::Values => values_lines(),
+        Part::Links => links_lines(),
+        Part::Records => records_lines(),
+    };
     lines.add("end", "");
     lines
 }
 
 /// The program's standard input.
-pub fn calls(with_whole: bool) -> String {
-    lines(with_whole).calls
+pub fn calls(part: Part) -> String {
+    lines(part).calls
 }
 
 /// What the program has to print.
-pub fn vectors(with_whole: bool) -> String {
-    lines(with_whole).answered
+pub fn vectors(part: Part) -> String {
+    lines(part).answered
 }
 
 #[cfg(test)]
@@ -1103,21 +1147,24 @@ mod tests {
             "118", "96", "105", "123", "128", "AAD751D1800000", "D4C1", "988F", "10021010030264961003", "FF02FF01FF00",
             "38500", "-27036",
         ];
-        let text = examples_section().answered;
-        let values: Vec<&str> = text.lines().skip(1).filter_map(|line| line.split(' ').last()).collect();
+        let text = examples_section(Part::Values).answered + &examples_section(Part::Records).answered;
+        let examples = text.lines().filter(|line| line.starts_with("example "));
+        let values: Vec<&str> = examples.filter_map(|line| line.split(' ').last()).collect();
         assert_eq!(values, expected);
     }
 
     #[test]
     fn each_line_begins_with_its_call() {
-        let (calls, text) = (calls(true), vectors(true));
-        assert_eq!(calls.lines().count(), text.lines().count());
-        assert!(calls.lines().zip(text.lines()).all(|(call, line)| line.starts_with(call)));
+        for part in [Part::Values, Part::Links, Part::Records] {
+            let (calls, text) = (calls(part), vectors(part));
+            assert_eq!(calls.lines().count(), text.lines().count());
+            assert!(calls.lines().zip(text.lines()).all(|(call, line)| line.starts_with(call)));
+        }
     }
 
     #[test]
     fn every_number_of_the_table_appears() {
-        let text = vectors(false);
+        let text = [Part::Values, Part::Links, Part::Records].map(vectors).concat();
         for number in 1..=18 {
             let word = format!("refused {number}");
             let seen = text.lines().any(|line| line.contains(&format!("{word} ")) || line.ends_with(&word));

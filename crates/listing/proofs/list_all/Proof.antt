@@ -16,11 +16,11 @@ large-buffer-requires c κs = tt
 loop-holds : tie.Need-loop-holds Inv-loop μ-loop
 loop-holds c = search needs
 
-slice-aggregate-read : tie.Need-slice-aggregate-read Inv-loop μ-loop
-slice-aggregate-read c = search needs
+slice-aggregate-read-some : tie.Need-slice-aggregate-read-some Inv-loop μ-loop
+slice-aggregate-read-some c = search needs
 
-read-requires : tie.Need-read-requires Inv-loop μ-loop
-read-requires c κs = tt
+read-some-requires : tie.Need-read-some-requires Inv-loop μ-loop
+read-some-requires c κs = tt
 
 returns : tie.Need-returns Inv-loop μ-loop
 returns c = search needs
@@ -72,8 +72,8 @@ list-all-spec =
     μ-loop
     large-buffer-requires
     loop-holds
-    slice-aggregate-read
-    read-requires
+    slice-aggregate-read-some
+    read-some-requires
     returns
     slice-aggregate-count
     count-requires

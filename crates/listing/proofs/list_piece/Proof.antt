@@ -79,10 +79,10 @@ returns-2 c =
     (λ e. c .before .before .before .if1 .left (stored (c .before .before .before .before) ∙ e)) (c .if2 .taken)
 
 sub-rest : tie.Need-sub-rest Inv-loop μ-loop
-sub-rest c = within (c .before .before .before .before .before .before .before .before .before .before .before)
+sub-rest c = omega (arith, within (c .before .before .before .before .before .before .before .before .before .before .before))
 
 part-rest-start : tie.Need-part-rest-start Inv-loop μ-loop
-part-rest-start c = within (c .before .before .before .before .before .before .before .before .before .before .before)
+part-rest-start c = omega (arith, within (c .before .before .before .before .before .before .before .before .before .before .before))
 
 part-rest-end : tie.Need-part-rest-end Inv-loop μ-loop
 part-rest-end c = search needs

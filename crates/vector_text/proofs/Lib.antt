@@ -1,0 +1,4 @@
+pub mod Counted
+pub mod Stored
+pub mod Laid
+pub mod Line

@@ -1,0 +1,18 @@
+use mathlib.Core.Path.{ap, _∙_}
+use borrow.Author.Needs.{needs}
+use Rattle.vector_text.specs.Words.{decimalOf, numberOf}
+use Rattle.vector_text.proofs.words.number.Statement.{statement}
+use Rattle.vector_text.proofs.words.number.Tie as tie
+
+word-requires : tie.Need-word-requires
+word-requires c κs = search needs
+
+decimal-requires : tie.Need-decimal-requires
+decimal-requires c κs = search needs
+
+returns : tie.Need-returns
+unfolding numberOf
+returns c = c .decimal .ensures ∙ ap decimalOf (c .before .word .ensures)
+
+pub number-spec : {M : Type 1} → statement M
+number-spec = tie.close (tie.spec word-requires decimal-requires returns)

@@ -1,0 +1,6 @@
+// The four links, each by the first letter of its name.
+pub const PCS: u8 = b'p';
+
+pub const MDU: u8 = b'm';
+
+pub const DLE: u8 = b'd';

@@ -1,9 +1,0 @@
--- What the program's counts promise.
-use Prim.Native.Nat.{ℕ, _≤_}
-use mathlib.Core.Path.{_≡_}
-use mathlib.Core.List.{List}
-use lib.ListN.{length, take}
-
--- n counts elements at the start of xs; said twice, so that lending these elements needs no proof
-abbrev pub Counted : {A : Type 0} → ℕ → List A → Type 0
-Counted n xs = (n ≤ length xs) × (n ≡ length (take n xs))
