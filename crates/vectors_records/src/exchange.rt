@@ -2,7 +2,6 @@
 use gate::Asked;
 use gate::Hop;
 use gate::Reply;
-use vector_text::memory;
 use vector_text::print;
 use vector_text::words;
 
@@ -25,7 +24,7 @@ fn show_asked(asked: Asked) {
         Asked::Done => print::word(b"done"),
         Asked::GaveUp => print::word(b"given-up"),
         Asked::Nothing => print::word(b"nothing"),
-        Asked::Refused(number) => print::named(b"refused", memory::wide(number)),
+        Asked::Refused(number) => print::named(b"refused", number as u64),
     }
 }
 
@@ -144,7 +143,7 @@ fn show_hop(hop: Hop, is_down: bool) {
                 print::word(b"here 0");
             }
         }
-        Hop::Refused(number) => print::named(b"refused", memory::wide(number)),
+        Hop::Refused(number) => print::named(b"refused", number as u64),
     }
 }
 

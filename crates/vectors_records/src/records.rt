@@ -25,7 +25,7 @@ fn within_signed(count: usize, fares: &[i32]) -> usize
 fn show_count(answer: Answer) {
     match answer {
         Answer::Done(count) => print::named(b"count", count as u64),
-        Answer::Refused(number) => print::named(b"refused", memory::wide(number)),
+        Answer::Refused(number) => print::named(b"refused", number as u64),
     }
     print::word(b"places");
 }
@@ -99,7 +99,7 @@ fn copy(line: &[u8], payload: &[u8]) {
 pub(crate) fn show_unsigned(element: UnsignedElement) {
     match element {
         UnsignedElement::Fare(fare) => print::named(b"value", fare as u64),
-        UnsignedElement::Refused(number) => print::named(b"refused", memory::wide(number)),
+        UnsignedElement::Refused(number) => print::named(b"refused", number as u64),
     }
 }
 
@@ -109,7 +109,7 @@ pub(crate) fn show_signed(element: SignedElement) {
             print::word(b"value");
             print_signed(fare);
         }
-        SignedElement::Refused(number) => print::named(b"refused", memory::wide(number)),
+        SignedElement::Refused(number) => print::named(b"refused", number as u64),
     }
 }
 

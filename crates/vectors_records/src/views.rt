@@ -42,7 +42,7 @@ fn element_of(payload: &[u8], kind: u8, count: usize, index: usize) -> Element
 fn view(payload: &[u8]) {
     let fields = fields_of(payload);
     if fields.kind == 0 {
-        print::refused(framing::refusal::MALFORMED);
+        print::named(b"refused", framing::refusal::MALFORMED as u64);
     } else {
         print::named(b"type", fields.kind as u64);
         print::named(b"count", fields.count as u64);
