@@ -23,7 +23,7 @@ use Rattle.framing.proofs.Passing.{leads-then, leads-byte, leads-before, gather
 use Rattle.dle.specs.Frame.{Message}
 use Rattle.dle.specs.Rules.{Phase, inside, size, gathered, held, cut}
 use Rattle.dle.specs.Contract.{modeOf, link}
-use Rattle.dle.specs.Steps.{opened, pairAt}
+use Rattle.dle.specs.Steps.{opened, doubled}
 
 -- hunting, every byte but 10 is noise
 noise-step : (store : List ℕ) (s : State) (b : ℕ) → s .mode ≡ 0 → between 0x10 0x10 b ≡ false → stepOn link (s, store) b ≡ ((afterNoise s 1, store), none)
@@ -34,26 +34,6 @@ pub leads-hunting : (piece : List ℕ) (s : State) (store : List ℕ) (i n : ℕ
 leads-hunting piece s store i n e h l =
     leads-before link piece 0x10 0x10 (afterNoise s) store i n h (omega arith)
     (λ k b q. noise-step store (afterNoise s k) b (noise-mode s k e) q ∙ ap (λ (x : State). ((x, store), none)) (noise-next s k e))
-
-pair-parts : (piece : List ℕ) (i second : ℕ) → pairAt piece i second ≡ true
-    → (i + 1 < length piece) × (getD piece i 0 ≡ 0x10) × (getD piece (i + 1) 0 ≡ second)
-pair-parts piece i second d =
-    let t = and-both (ltb (i + 1) (length piece)) _ d in
-    let e = and-both (eqb (getD piece i 0) 0x10) _ (t .1) in
-    (ltb-true (i + 1) (length piece) (t .0), eqb-true (getD piece i 0) 0x10 (e .0), eqb-true (getD piece (i + 1) 0) second (e .1))
-
--- a start mark opens a frame
-pub leads-start : (piece : List ℕ) (s : State) (store : List ℕ) (i : ℕ) → s .mode ≡ 0 → pairAt piece i 0x02 ≡ true
-    → Leads link piece (s, store) i (opened 0 2 (s .noise), store) (i + 2)
-leads-start piece s store i e d =
-    let p = pair-parts piece i 0x02 d in
-    let mid : Lent link = (record { mode = 1; count = 0; «open» = 1; noise = s .noise }, store) in
-    let last : Lent link = (opened 0 2 (s .noise), store) in
-    let next : i + 1 + 1 ≡ i + 2 = omega arith in
-    let ten : stepOn link (s, store) 0x10 ≡ (mid, none) = rw (eq-eqb (s .mode) 0 e) (rw (eq-eqb (s .mode) 0 e)) in
-    subst (Leads link piece (s, store) i last) next
-    (leads-then link piece (leads-byte link piece (s, store) mid i (omega (arith, p .0)) refl (ap (stepOn link (s, store)) (p .1) ∙ ten))
-    (leads-byte link piece mid last (i + 1) (p .0) refl (ap (stepOn link mid) (p .2))))
 
 -- an open frame with a 10 waiting
 abbrev waiting : ℕ → ℕ → ℕ → State
@@ -94,12 +74,16 @@ module _ (piece store : List ℕ) (k i : ℕ) (room : size ≤ length store) whe
       (λ k o z b at less room h. plain-step k o z at room b less (λ e. between-not 0x10 0x10 b h (omega arith) (omega arith)))
 
   -- a doubled 10
-  pub gathers-doubled : k < size → pairAt piece i 0x10 ≡ true → Gathers link opened piece store k i (set store k 0x10) (k + 1) (i + 2)
+  pub gathers-doubled : k < size → doubled piece i ≡ true → Gathers link opened piece store k i (set store k 0x10) (k + 1) (i + 2)
   gathers-doubled less d =
-      let p = pair-parts piece i 0x10 d in
+      let t = and-both (ltb (i + 1) (length piece)) _ d in
+      let e = and-both (eqb (getD piece i 0) 0x10) _ (t .1) in
+      let within : i + 1 < length piece = ltb-true (i + 1) (length piece) (t .0) in
+      let first : getD piece i 0 ≡ 0x10 = eqb-true (getD piece i 0) 0x10 (e .0) in
+      let second : getD piece (i + 1) 0 ≡ 0x10 = eqb-true (getD piece (i + 1) 0) 0x10 (e .1) in
       record {
         onward = omega arith;
-        within = omega (arith, p .0);
+        within = omega arith;
         same-length = length-set store k 0x10;
         passes = λ o z l.
             let next : i + 1 + 1 ≡ i + 2 = omega arith in
@@ -109,6 +93,6 @@ module _ (piece store : List ℕ) (k i : ℕ) (room : size ≤ length store) whe
             subst (λ (q : ℕ). Leads link piece (opened k o z, store) i (opened (k + 1) q z, set store k 0x10) (i + 2)) held
             (subst (Leads link piece (opened k o z, store) i last) next
             (leads-then link piece
-            (leads-byte link piece (opened k o z, store) mid i (omega (arith, p .0)) refl (ap (stepOn link (opened k o z, store)) (p .1) ∙ half-step k o z store room (omega arith)))
-            (leads-byte link piece mid last (i + 1) (p .0) (length-set store k 0x10) (ap (stepOn link mid) (p .2) ∙ double-step k ((o + 1) % 2 ^ 32) z store room less))));
+            (leads-byte link piece (opened k o z, store) mid i (omega arith) refl (ap (stepOn link (opened k o z, store)) first ∙ half-step k o z store room (omega arith)))
+            (leads-byte link piece mid last (i + 1) within (length-set store k 0x10) (ap (stepOn link mid) second ∙ double-step k ((o + 1) % 2 ^ 32) z store room less))));
       }

@@ -32,9 +32,9 @@ pub record Open (s : State) (store : List ℕ) : Type 0 where
 abbrev pub opened : ℕ → ℕ → ℕ → State
 opened count held noise = record { mode = 2; count = count; «open» = held; noise = noise }
 
--- a 10 and this byte behind it lie at a place
-abbrev pub pairAt : List ℕ → ℕ → ℕ → Bool
-pairAt piece at second = ltb (at + 1) (length piece) && (eqb (getD piece at 0) 0x10 && eqb (getD piece (at + 1) 0) second)
+-- a doubled 10 lies whole at a place
+abbrev pub doubled : List ℕ → ℕ → Bool
+doubled piece at = ltb (at + 1) (length piece) && (eqb (getD piece at 0) 0x10 && eqb (getD piece (at + 1) 0) 0x10)
 
 -- from place i of a piece so many bytes are passed at once, without an event
 pub record Passes (piece : List ℕ) (c : Lent link) (i : ℕ) (r : Reached) (after : List ℕ) : Type 0 where

@@ -22,16 +22,16 @@ ghost use Rattle.escape.specs.Dle.{dle};
 ghost use Rattle.dle.specs.Frame.{content, error, ok, enclose, frame};
 ghost use Rattle.dle.specs.Rules.{hunting, half, size, gathered, judge, gather, act, cut};
 ghost use Rattle.dle.specs.Contract.{phaseOf, dataOf, link, toldOf, answerOf};
-ghost use Rattle.dle.specs.Steps.{Answers, Open, opened, pairAt, Passes};
+ghost use Rattle.dle.specs.Steps.{Answers, Open, opened, doubled, Passes};
 
 // The least store of a receiver: a header of 3 bytes and data of at most 255.
 const SIZE: usize = 258;
 
 // An accepted message: length 0 marks an error message with its error byte; else so much data lies in the store from place 3.
 pub struct Message {
-    pub length: u8,
     pub sequence: u8,
     pub node: u8,
+    pub length: u8,
     pub error: u8,
 }
 
@@ -313,39 +313,31 @@ fn made(event: Event) -> bool
     }
 }
 
-// Whether a 10 and this byte behind it lie at a place.
-fn is_pair(piece: &[u8], at: usize, second: u8) -> bool
-    requires { ⌜ at ≤ length (now piece) ⌝ }
-    ensures { λ r. ⌜ r ≡ pairAt (now (piece .entry)) at second ⌝ }
-{
-    if at + 1 < piece.len() {
-        if piece[at] == 0x10 {
-            piece[at + 1] == second
-        } else {
-            false
-        }
-    } else {
-        false
-    }
-}
-
-// The noise from a place on, up to the next 10, and a start mark behind it.
+// The noise from a place on, up to the next 10.
 fn pass_noise(state: State, piece: &[u8], from: usize) -> Reached
     requires { ⌜ (state .mode ≡ 0) × (state .count ≤ size) × (from ≤ length (now piece)) ⌝ }
     ensures { λ r. ⌜ ((store : List ℕ) → Passes (now (piece .entry)) (state, store) from r store) ⌝ }
 {
     let n = runs::count_before(0x10, 0x10, &piece[from..]);
-    let at = from + n;
-    let passed = framing::pass_noise(state, n);
-    if is_pair(piece, at, 0x02) {
-        return Reached {
-            state: framing::reopen(passed, 2, 0, 2),
-            next: at + 2,
-        };
-    }
     Reached {
-        state: passed,
-        next: at,
+        state: framing::pass_noise(state, n),
+        next: from + n,
+    }
+}
+
+// Whether a doubled 10 lies whole at a place.
+fn is_doubled(piece: &[u8], at: usize) -> bool
+    requires { ⌜ at ≤ length (now piece) ⌝ }
+    ensures { λ r. ⌜ r ≡ doubled (now (piece .entry)) at ⌝ }
+{
+    if at + 1 < piece.len() {
+        if piece[at] == 0x10 {
+            piece[at + 1] == 0x10
+        } else {
+            false
+        }
+    } else {
+        false
     }
 }
 
@@ -356,7 +348,7 @@ fn gather_some(store: &mut [u8], piece: &[u8], count: usize, from: usize) -> Gat
     ensures most { λ r. ⌜ r .count ≤ size ⌝ }
 {
     if count < SIZE {
-        if is_pair(piece, from, 0x10) {
+        if is_doubled(piece, from) {
             store[count] = 0x10;
             return Gathered {
                 count: count + 1,

@@ -5,8 +5,8 @@ use Rattle.dle.proofs.Passing.{gathers-plain, gathers-doubled}
 use Rattle.dle.proofs.gather_some.Statement.{statement}
 use Rattle.dle.proofs.gather_some.Tie as tie
 
-is-pair-requires : tie.Need-is-pair-requires
-is-pair-requires c κs = search needs
+is-doubled-requires : tie.Need-is-doubled-requires
+is-doubled-requires c κs = search needs
 
 slice-write-store : tie.Need-slice-write-store
 slice-write-store c = search needs
@@ -25,7 +25,7 @@ returns c =
     let a = c .before .before .before .before .before .args in
     let p = c .before .before .before .before .before .pre in
     let less = c .before .before .if1 .taken in
-    (gathers-doubled (a .piece .now) (a .store .now) (a .count) (a .from) (p .1) less (sym (c .before .is-pair .ensures) ∙ c .if2 .taken), omega arith)
+    (gathers-doubled (a .piece .now) (a .store .now) (a .count) (a .from) (p .1) less (sym (c .before .is-doubled .ensures) ∙ c .if2 .taken), omega arith)
 
 sub-copy-before : tie.Need-sub-copy-before
 sub-copy-before c = search needs
@@ -66,7 +66,7 @@ pub gather-some-spec : {M : Type 1} → statement M
 gather-some-spec =
     tie.close
     (tie.spec
-    is-pair-requires
+    is-doubled-requires
     slice-write-store
     add-t9
     add-t10

@@ -1,7 +1,7 @@
 use borrow.Author.Needs.{needs}
 use borrow.Author.Tests.{lt-ltb, le-ltb, eq-eqb, ne-eqb}
-use Rattle.dle.proofs.is_pair.Statement.{statement}
-use Rattle.dle.proofs.is_pair.Tie as tie
+use Rattle.dle.proofs.is_doubled.Statement.{statement}
+use Rattle.dle.proofs.is_doubled.Tie as tie
 
 add-if1 : tie.Need-add-if1
 add-if1 c = search needs
@@ -24,8 +24,8 @@ returns-2 c = simp (lt-ltb _ _ (c .before .before .if1 .taken), ne-eqb _ _ (c .i
 returns-3 : tie.Need-returns-3
 returns-3 c = simp (le-ltb _ _ (c .if1 .left))
 
-pub is-pair-spec : {M : Type 1} → statement M
-is-pair-spec =
+pub is-doubled-spec : {M : Type 1} → statement M
+is-doubled-spec =
     tie.close
     (tie.spec
     add-if1
