@@ -12,7 +12,7 @@ uint16_t bench_crc16(const uint8_t *p, size_t n);
 uint32_t bench_crc32(const uint8_t *p, size_t n);
 uint8_t bench_sum(const uint8_t *p, size_t n);
 
-enum { ROUNDS = 15, MEGABYTE = 1 << 20 };
+enum { ROUNDS = 40, MEGABYTE = 1 << 20 };
 static uint64_t sink;
 
 static double now(void) { struct timespec t; clock_gettime(CLOCK_MONOTONIC, &t); return t.tv_sec + t.tv_nsec * 1e-9; }
@@ -38,21 +38,22 @@ static void compare(const char *name, const uint8_t *p, size_t n, call plain, ca
     }
 }
 
-static double best(const uint8_t *p, size_t n, size_t times, call f) {
-    double least = 1e9;
-    for (int k = 0; k < ROUNDS; k++) {
-        double t = now();
-        for (size_t i = 0; i < times; i++) sink += f(p, n);
-        t = now() - t;
-        if (t < least) least = t;
-    }
-    return least / (double)times;
+static double once(const uint8_t *p, size_t n, size_t times, call f) {
+    double t = now();
+    for (size_t i = 0; i < times; i++) sink += f(p, n);
+    return (now() - t) / (double)times;
 }
 
+/* Rounds of the two calls by turns, so that what else the machine does falls on both; the best round of each counts. */
 static void row(const char *name, const uint8_t *p, size_t n, call plain, call proved) {
     compare(name, p, n, plain, proved);
     size_t times = 1 + 400000 / (n + 32);
-    double a = best(p, n, times, plain), b = best(p, n, times, proved);
+    double a = 1e9, b = 1e9;
+    for (int k = 0; k < ROUNDS; k++) {
+        double s = once(p, n, times, plain), t = once(p, n, times, proved);
+        if (s < a) a = s;
+        if (t < b) b = t;
+    }
     printf("| %s | %zu | %.0f | %.0f | %.2f |\n", name, n, a * 1e9, b * 1e9, a / b);
     fflush(stdout);
 }
