@@ -1,7 +1,7 @@
 -- The register after a run in parts, for any register constant p: two parts, some bytes more, all bits at once.
 use mathlib.Core.Path.{_≡_, refl, sym, ap, ap₂, _∙_}
 use mathlib.Core.List.{List, [], _∷_, _++_}
-use Prim.Native.Nat.{ℕ, zero, suc, _+_, _*_, _-_, _^_, _≤_, _<_}
+use Prim.Native.Nat.{ℕ, suc, _+_, _*_, _-_, _^_, _≤_, _<_}
 use native.Mathlib.Omega.{arith}
 use lib.Bits.{bitXor, xor-zero-r, xor-comm, xor-shifted}
 use lib.ListN.{length, getD, take, drop, length-drop, drop-of-length-le, take-append-drop}

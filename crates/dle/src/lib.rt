@@ -76,19 +76,6 @@ fn put_mark(out: &mut [u8], at: usize, first: u8, second: u8)
     out[at + 1] = second;
 }
 
-// Stores bytes hidden from a place on, and answers the place behind them.
-fn put_hidden(bytes: &[u8], out: &mut [u8], at: usize) -> usize
-    requires { ⌜ at + length (hide dle (now bytes)) ≤ length (now out) ⌝ }
-    ensures next { λ r. ⌜ r ≡ at + length (hide dle (now (bytes .entry))) ⌝ }
-    ensures put { λ r. ⌜ now (out .exit) ≡ sets (now (out .entry)) at (hide dle (now (bytes .entry))) ⌝ }
-{
-    let answer = escape::dle_hide_into(bytes, out, at);
-    match answer {
-        Answer::Done(n) => at + n,
-        Answer::Refused(_) => at, // never: they fit
-    }
-}
-
 // Stores a frame at the start, and answers its length.
 fn put_frame(header: &[u8], data: &[u8], out: &mut [u8]) -> usize
     requires { ⌜ length (enclose (now header ++ now «data»)) ≤ length (now out) ⌝ }
@@ -96,8 +83,10 @@ fn put_frame(header: &[u8], data: &[u8], out: &mut [u8]) -> usize
     ensures put { λ r. ⌜ now (out .exit) ≡ sets (now (out .entry)) 0 (enclose (now (header .entry) ++ now («data» .entry))) ⌝ }
 {
     put_mark(out, 0, 0x10, 0x02);
-    let place = put_hidden(header, out, 2);
-    let end = put_hidden(data, out, place);
+    let head = escape::dle_hide_into(header, out, 2);
+    let place = 2 + framing::count_of(head);
+    let rest = escape::dle_hide_into(data, out, place);
+    let end = place + framing::count_of(rest);
     put_mark(out, end, 0x10, 0x03);
     end + 2
 }

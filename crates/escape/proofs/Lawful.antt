@@ -9,7 +9,7 @@ use lib.ListN.{length}
 use Rattle.escape.specs.Code.{Meaning, byte, waits, start, end, wrong, Code, meaning, hide, read, unhideFrom, unhide}
 use Rattle.runs.specs.Runs.{each}
 use Rattle.escape.specs.Claims.{Coded, alone, pair, Lawful}
-use Rattle.runs.proofs.Each.{each-snoc, each-short, each-long}
+use Rattle.runs.proofs.Each.{each-snoc, each-short}
 
 module _ (code : Code) (lawful : Lawful code) where
   -- a run that hides a byte reads as that byte, whatever follows
@@ -83,9 +83,6 @@ module _ (code : Code) (lawful : Lawful code) where
 
   pub hide-short : (bytes : List ℕ) → length (hide code bytes) ≤ 2 * length bytes
   hide-short = each-short (code .hideByte) (λ b. coded-size b (code .hideByte b) (lawful .coded b) .1)
-
-  pub hide-long : (bytes : List ℕ) → length bytes ≤ length (hide code bytes)
-  hide-long = each-long (code .hideByte) (λ b. coded-size b (code .hideByte b) (lawful .coded b) .0)
 
   -- a wire byte that completes a byte v, behind half an escape e or not: with what was held it hides one byte more
   pub hide-more : (e : ℕ) → code .plain e ≡ waits → (waiting : Bool) (bytes : List ℕ) (w v : ℕ) → meaning code waiting w ≡ byte v

@@ -87,28 +87,18 @@ fn is_sendable(kind: u8, repeat: u8, length: usize) -> bool
     fields_ok(kind, repeat, length) && length <= 1024
 }
 
-// Stores bytes hidden from a place on, and answers the place behind them.
-fn put_hidden(bytes: &[u8], out: &mut [u8], at: usize) -> usize
-    requires { ⌜ at + length (hide Escape.expansion (now bytes)) ≤ length (now out) ⌝ }
-    ensures next { λ r. ⌜ r ≡ at + length (hide Escape.expansion (now (bytes .entry))) ⌝ }
-    ensures put { λ r. ⌜ now (out .exit) ≡ sets (now (out .entry)) at (hide Escape.expansion (now (bytes .entry))) ⌝ }
-{
-    let answer = escape::expansion_hide_into(bytes, out, at);
-    match answer {
-        Answer::Done(n) => at + n,
-        Answer::Refused(_) => at, // never: they fit
-    }
-}
-
 // Stores a frame at the start.
 fn put_frame(header: &[u8], data: &[u8], trailer: &[u8], out: &mut [u8])
     requires { ⌜ length (enclose (now header ++ (now «data» ++ now trailer))) ≤ length (now out) ⌝ }
     ensures { λ r. ⌜ now (out .exit) ≡ sets (now (out .entry)) 0 (enclose (now (header .entry) ++ (now («data» .entry) ++ now (trailer .entry)))) ⌝ }
 {
     out[0] = 0xFD;
-    let a = put_hidden(header, out, 1);
-    let b = put_hidden(data, out, a);
-    let c = put_hidden(trailer, out, b);
+    let head = escape::expansion_hide_into(header, out, 1);
+    let a = 1 + framing::count_of(head);
+    let body = escape::expansion_hide_into(data, out, a);
+    let b = a + framing::count_of(body);
+    let check = escape::expansion_hide_into(trailer, out, b);
+    let c = b + framing::count_of(check);
     out[c] = 0xFE;
 }
 

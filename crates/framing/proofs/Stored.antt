@@ -6,9 +6,7 @@ use mathlib.Core.List.{List}
 use lib.ListN.{length}
 use lib.Seq.{sets}
 use borrow.Author.Tests.{le-leb, lt-leb}
-use Rattle.framing.specs.Answer.{Outcome, done, refused, outcomeOf, storedAt}
-use Rattle.framing.specs.declared.Answer.{Answer}
-use Rattle.framing.specs.declared.Answer.the-variants.{Done, Refused}
+use Rattle.framing.specs.Answer.{Outcome, done, refused, countOf, storedAt}
 
 module _ (run memory : List ℕ) (at : ℕ) where
   pub stored-done : at + length run ≤ length memory → storedAt run memory at ≡ (done (length run), sets memory at run)
@@ -19,22 +17,12 @@ module _ (run memory : List ℕ) (at : ℕ) where
   unfolding storedAt
   stored-refused h = rw (lt-leb (at + length run) (length memory) h)
 
-  -- what such a call leaves, and what a caller that stores the run itself answers
-  stored-is : (after : List ℕ) (o : Outcome ℕ) → (o, after) ≡ storedAt run memory at → at + length run ≤ length memory → after ≡ sets memory at run
-  stored-is after o e h = ap (λ (w : Outcome ℕ × List ℕ). w .1) (e ∙ stored-done h)
+  -- what such a call answers and leaves where the run fits, and what a caller that stores the run itself answers
+  pub stored-fits : (after : List ℕ) (o : Outcome ℕ) → (o, after) ≡ storedAt run memory at → at + length run ≤ length memory
+      → (countOf o ≡ length run) × (after ≡ sets memory at run)
+  stored-fits after o e h =
+      let d : _≡_ {A = Outcome ℕ × List ℕ} (o, after) (done (length run), sets memory at run) = e ∙ stored-done h in
+      (ap (λ (w : Outcome ℕ × List ℕ). countOf (w .0)) d, ap (λ (w : Outcome ℕ × List ℕ). w .1) d)
 
   pub stored-so : (after : List ℕ) (n : ℕ) → n ≡ length run → at + n ≤ length memory → after ≡ sets memory at run → (done n, after) ≡ storedAt run memory at
   stored-so after n e h a = (λ i. (done (e i), a i)) ∙ sym (stored-done (omega arith))
-
-  -- a caller that goes by the case of the answer, where the run fits
-  module _ (after : List ℕ) (r : Answer) (fits : at + length run ≤ length memory) (e : (outcomeOf r, after) ≡ storedAt run memory at) where
-    pub put-done : (n : ℕ) → r ≡ Done n → (n ≡ length run) × (after ≡ sets memory at run)
-    put-done n h =
-        let o : outcomeOf r ≡ done (length run) = ap (λ (x : Outcome ℕ × List ℕ). x .0) (e ∙ stored-done fits) in
-        (cc, stored-is after (outcomeOf r) e fits)
-
-    pub put-never : (n : ℕ) → r ≡ Refused n → ⊥
-    put-never n h =
-        let o : outcomeOf r ≡ done (length run) = ap (λ (x : Outcome ℕ × List ℕ). x .0) (e ∙ stored-done fits) in
-        let z : _≡_ {A = ℕ} 0 1 = cc in
-        omega arith

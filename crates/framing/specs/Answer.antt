@@ -17,6 +17,11 @@ abbrev pub outcomeOf : Answer → Outcome ℕ
 outcomeOf (answer.Done n) = done n
 outcomeOf (answer.Refused n) = refused n
 
+-- how many bytes were made: none by a refusal
+abbrev pub countOf : Outcome ℕ → ℕ
+countOf (done n) = n
+countOf (refused n) = 0
+
 -- a run stored into lent memory from a place on, and how many bytes it has; 2, and the memory as it came, where it does not fit there
 unfoldable pub storedAt : List ℕ → List ℕ → ℕ → Outcome ℕ × List ℕ
 storedAt run memory at = cond (leb (at + length run) (length memory)) (done (length run), sets memory at run) (refused 2, memory)

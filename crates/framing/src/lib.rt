@@ -4,12 +4,23 @@ pub mod refusal;
 
 ghost use mathlib.Core.Path.{_≡_};
 ghost use Prim.Native.Nat.{_+_, _%_, _^_};
+ghost use Rattle.framing.specs.Answer.{outcomeOf, countOf};
 ghost use Rattle.framing.specs.State.{freshState, knownState, afterNoise};
 
 // The answer of a call that makes bytes: how many, or the number of a refusal.
 pub enum Answer {
     Done(usize),
     Refused(u8),
+}
+
+// How many bytes a call has made.
+pub fn count_of(answer: Answer) -> usize
+    ensures { λ r. ⌜ r ≡ countOf (outcomeOf answer) ⌝ }
+{
+    match answer {
+        Answer::Done(n) => n,
+        Answer::Refused(_) => 0,
+    }
 }
 
 // What a receiver keeps between calls: the link's mode, the count of gathered bytes, the wire bytes of what is open, the noise bytes.

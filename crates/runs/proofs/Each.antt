@@ -59,11 +59,6 @@ module _ (f : ℕ → List ℕ) where
   each-short two [] = omega arith
   each-short two (b ∷ bytes) = simp length-append (omega (arith, two b, each-short two bytes))
 
-  pub each-long : ((b : ℕ) → 1 ≤ length (f b)) → (bytes : List ℕ) → length bytes ≤ length (each f bytes)
-  unfolding each
-  each-long one [] = omega arith
-  each-long one (b ∷ bytes) = simp length-append (omega (arith, one b, each-long one bytes))
-
   -- bytes, where f gives bytes for a byte
   pub each-bytes : ((b : ℕ) → b < 256 → Bytes (f b)) → (bytes : List ℕ) → Bytes bytes → Bytes (each f bytes)
   unfolding each
