@@ -85,18 +85,6 @@ fn judge(gathered: &[u8]) -> Result<Message, u8> {
     Ok(Message { sequence, node, error: None, length: stated })
 }
 
-/// One byte after unhiding; one more than the link's size is not stored.
-fn gather(state: &mut State, store: &mut [u8], byte: u8) -> Event<Message> {
-    if state.count as usize == Dle::SIZE {
-        stream::hunt(state);
-        return Event::Refused(5);
-    }
-    store[state.count as usize] = byte;
-    state.count += 1;
-    state.mode = OPEN;
-    Event::Nothing
-}
-
 impl Link for Dle {
     type Message = Message;
     const SIZE: usize = 258;
@@ -136,7 +124,7 @@ impl Link for Dle {
                     state.mode = HALF;
                     return Event::Nothing;
                 }
-                gather(state, store, byte)
+                stream::gather(state, store, byte, OPEN, Self::SIZE)
             }
             _ => {
                 // HALF: what follows the 10 inside.
@@ -156,7 +144,7 @@ impl Link for Dle {
                             Err(number) => Event::Refused(number),
                         }
                     }
-                    MARK => gather(state, store, MARK),
+                    MARK => stream::gather(state, store, MARK, OPEN, Self::SIZE),
                     _ => {
                         stream::hunt(state);
                         Event::Refused(7)

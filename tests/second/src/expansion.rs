@@ -69,18 +69,6 @@ fn judge(gathered: &[u8]) -> Result<Message, u8> {
     Ok(Message { id, kind, repeat, address, length })
 }
 
-/// One byte after unhiding; one more than the link's size is not stored.
-fn gather(state: &mut State, store: &mut [u8], byte: u8) -> Event<Message> {
-    if state.count as usize == Expansion::SIZE {
-        stream::hunt(state);
-        return Event::Refused(5);
-    }
-    store[state.count as usize] = byte;
-    state.count += 1;
-    state.mode = OPEN;
-    Event::Nothing
-}
-
 impl Link for Expansion {
     type Message = Message;
     const SIZE: usize = 1032;
@@ -115,13 +103,13 @@ impl Link for Expansion {
                         state.mode = HALF;
                         Event::Nothing
                     }
-                    _ => gather(state, store, byte),
+                    _ => stream::gather(state, store, byte, OPEN, Self::SIZE),
                 }
             }
             HALF => {
                 state.open = state.open.wrapping_add(1);
                 match escape::unhide(byte) {
-                    Some(hidden) => gather(state, store, hidden),
+                    Some(hidden) => stream::gather(state, store, hidden, OPEN, Self::SIZE),
                     None => {
                         stream::hunt(state);
                         Event::Refused(7)

@@ -100,6 +100,18 @@ pub fn hunt(state: &mut State) {
     state.open = 0;
 }
 
+/// One byte after unhiding, in a frame that stays open; one more than the link's size is not stored.
+pub fn gather<M>(state: &mut State, store: &mut [u8], byte: u8, open: u32, size: usize) -> Event<M> {
+    if state.count as usize == size {
+        hunt(state);
+        return Event::Refused(5);
+    }
+    store[state.count as usize] = byte;
+    state.count += 1;
+    state.mode = open;
+    Event::Nothing
+}
+
 /// Writers: test 2, then the frame at the start of the lent memory.
 pub fn put(frame: &[u8], out: &mut [u8]) -> Result<usize, u8> {
     if out.len() < frame.len() {
