@@ -15,7 +15,7 @@ use Rattle.dle.specs.Frame as Frame
 use Rattle.dle.specs.Rules.{Phase, size, gathered, held}
 use Rattle.dle.specs.Contract.{modeOf, link, toldOf}
 use Rattle.dle.specs.declared.Stepped.{Stepped}
-use Rattle.dle.specs.declared.Reached.{Reached}
+use Rattle.framing.specs.declared.Reached.{Reached}
 
 -- what is answered of a byte by what the rules give: the phase after it, and the segment that it closes
 pub record Answers (s : State) (c : Phase × Option (Segment Frame.Message)) (r : Stepped) : Type 0 where

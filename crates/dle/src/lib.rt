@@ -1,6 +1,8 @@
 // The DLE link of gas meters: writer and receiver.
 use escape::Meaning;
 use framing::Answer;
+use framing::Gathered;
+use framing::Reached;
 use framing::State;
 use framing::refusal;
 ghost use mathlib.Core.Path.{_≡_};
@@ -53,18 +55,6 @@ pub struct Received {
 struct Stepped {
     event: Event,
     state: State,
-}
-
-// What is reached by passing bytes: the state, and the next place of the piece.
-struct Reached {
-    state: State,
-    next: usize,
-}
-
-// What is reached inside a frame: how many bytes are gathered, and the next place of the piece.
-struct Gathered {
-    count: usize,
-    next: usize,
 }
 
 // Stores a mark of two bytes, as they are.
@@ -302,18 +292,6 @@ fn made(event: Event) -> bool
     }
 }
 
-// The noise from a place on, up to the next 10.
-fn pass_noise(state: State, piece: &[u8], from: usize) -> Reached
-    requires { ⌜ (state .mode ≡ 0) × (state .count ≤ size) × (from ≤ length (now piece)) ⌝ }
-    ensures { λ r. ⌜ ((store : List ℕ) → Passes (now (piece .entry)) (state, store) from r store) ⌝ }
-{
-    let n = runs::count_before(0x10, 0x10, &piece[from..]);
-    Reached {
-        state: framing::pass_noise(state, n),
-        next: from + n,
-    }
-}
-
 // Whether a doubled 10 lies whole at a place.
 fn is_doubled(piece: &[u8], at: usize) -> bool
     requires { ⌜ at ≤ length (now piece) ⌝ }
@@ -379,7 +357,7 @@ fn advance(state: State, store: &mut [u8], piece: &[u8], from: usize) -> Reached
 {
     let mode = state.mode;
     if mode == 0 {
-        return pass_noise(state, piece, from);
+        return framing::pass_hunting(state, piece, from, 0x10);
     }
     if mode == 2 {
         return pass_bytes(state, store, piece, from);

@@ -16,7 +16,7 @@ use Rattle.expansion.specs.Frame as Frame
 use Rattle.expansion.specs.Rules.{Phase, size, gathered, held}
 use Rattle.expansion.specs.Contract.{modeOf, link, toldOf}
 use Rattle.expansion.specs.declared.Stepped.{Stepped}
-use Rattle.expansion.specs.declared.Reached.{Reached}
+use Rattle.framing.specs.declared.Reached.{Reached}
 
 -- what is answered of a byte, and the store after it, by what the rules give: the phase after it, and the segment that it closes
 pub record Answers (s : State) (store : List ℕ) (c : Phase × Option (Segment Frame.Message)) (r : Stepped) (after : List ℕ) : Type 0 where

@@ -1,6 +1,8 @@
 // The expansion link of gate boards: writer and receiver.
 use escape::Meaning;
 use framing::Answer;
+use framing::Gathered;
+use framing::Reached;
 use framing::State;
 use framing::refusal;
 ghost use mathlib.Core.Path.{_≡_};
@@ -52,18 +54,6 @@ pub struct Received {
 struct Stepped {
     event: Event,
     state: State,
-}
-
-// What is reached by passing bytes: the state, and the next place of the piece.
-struct Reached {
-    state: State,
-    next: usize,
-}
-
-// What is reached inside a frame: how many bytes are gathered, and the next place of the piece.
-struct Gathered {
-    count: usize,
-    next: usize,
 }
 
 // Whether a message of this type may carry so much data.
@@ -277,18 +267,6 @@ fn made(event: Event) -> bool
     }
 }
 
-// The noise from a place on, up to the next FD.
-fn pass_noise(state: State, piece: &[u8], from: usize) -> Reached
-    requires { ⌜ (state .mode ≡ 0) × (state .count ≤ size) × (from ≤ length (now piece)) ⌝ }
-    ensures { λ r. ⌜ ((store : List ℕ) → Passes (now (piece .entry)) (state, store) from r store) ⌝ }
-{
-    let n = runs::count_before(0xFD, 0xFD, &piece[from..]);
-    Reached {
-        state: framing::pass_noise(state, n),
-        next: from + n,
-    }
-}
-
 // Whether a hidden byte lies whole at a place: FF and then 00, 01 or 02.
 fn is_hidden(piece: &[u8], at: usize) -> bool
     requires { ⌜ at ≤ length (now piece) ⌝ }
@@ -354,7 +332,7 @@ fn advance(state: State, store: &mut [u8], piece: &[u8], from: usize) -> Reached
 {
     let mode = state.mode;
     if mode == 0 {
-        return pass_noise(state, piece, from);
+        return framing::pass_hunting(state, piece, from, 0xFD);
     }
     if mode == 1 {
         return pass_bytes(state, store, piece, from);

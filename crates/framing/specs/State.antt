@@ -3,10 +3,12 @@ use Prim.Native.Nat.{ℕ, _+_, _%_, _^_}
 use mathlib.Core.Bool.{Bool, cond, _&&_}
 use mathlib.Core.List.{List}
 use mathlib.Core.Option.{Option, none, some}
-use lib.ListN.{length}
+use lib.ListN.{length, drop}
 use lib.Dec.{eqb, leb, ltb}
 use Rattle.framing.specs.Segment.{Segment, noiseAfter}
+use Rattle.runs.specs.Runs.{before}
 use Rattle.framing.specs.declared.State.{State}
+use Rattle.framing.specs.declared.Reached.{Reached}
 
 -- nothing read yet
 abbrev pub freshState : State
@@ -20,6 +22,10 @@ knownState modes hunting size s = ltb (s .mode) modes && cond (ltb (s .mode) hun
 -- the state after n bytes of noise in plain hunting: none change nothing, whatever stands in `open`
 abbrev pub afterNoise : State → ℕ → State
 afterNoise s n = cond (eqb n 0) s (record { mode = 0; count = 0; «open» = 0; noise = (s .noise + n) % 2 ^ 32 })
+
+-- what noise from place i of a piece on leads to, up to the mark: the state after it, and the place of the mark or the end
+abbrev pub huntedFrom : State → List ℕ → ℕ → ℕ → Reached
+huntedFrom s piece i mark = record { state = afterNoise s (before mark mark (drop i piece)); next = i + before mark mark (drop i piece) }
 
 -- the wire bytes held after a byte: those now held, where it came in plain hunting (mode 0) or closed a segment; else one more, in 32 bits
 abbrev pub openAfter : {M : Type 0} → Option (Segment M) → State → ℕ → ℕ

@@ -5,7 +5,7 @@ pub mod refusal;
 ghost use mathlib.Core.Path.{_≡_};
 ghost use Prim.Native.Nat.{_+_, _%_, _^_};
 ghost use Rattle.framing.specs.Answer.{outcomeOf, countOf};
-ghost use Rattle.framing.specs.State.{freshState, knownState, afterNoise};
+ghost use Rattle.framing.specs.State.{freshState, knownState, afterNoise, huntedFrom};
 
 // The answer of a call that makes bytes: how many, or the number of a refusal.
 pub enum Answer {
@@ -30,6 +30,18 @@ pub struct State {
     pub count: usize,
     pub open: u32,
     pub noise: u32,
+}
+
+// What is reached by passing bytes of a piece without an event: the state, and the next place of the piece.
+pub struct Reached {
+    pub state: State,
+    pub next: usize,
+}
+
+// What is reached inside a frame: how many bytes are gathered, and the next place of the piece.
+pub struct Gathered {
+    pub count: usize,
+    pub next: usize,
 }
 
 // A receiver that has read nothing.
@@ -107,6 +119,24 @@ pub fn pass_noise(state: State, bytes: usize) -> State
         state
     } else {
         add_noise(state, (bytes % 4294967296) as u32)
+    }
+}
+
+// The noise of a piece from a place on, in plain hunting, up to the next mark.
+pub fn pass_hunting(state: State, piece: &[u8], from: usize, mark: u8) -> Reached
+    ensures { λ r. ⌜ r ≡ huntedFrom state (now (piece .entry)) from mark ⌝ }
+{
+    if from <= piece.len() {
+        let n = runs::count_before(mark, mark, &piece[from..]);
+        Reached {
+            state: pass_noise(state, n),
+            next: from + n,
+        }
+    } else {
+        Reached {
+            state: state,
+            next: from,
+        }
     }
 }
 

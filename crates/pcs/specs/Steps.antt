@@ -18,7 +18,7 @@ use Rattle.pcs.specs.Rules.{Phase, size, gathered, held, stated, asksCrc
 use Rattle.pcs.specs.Contract.{modeOf, link, toldOf}
 use Rattle.pcs.specs.declared.Message.{Message}
 use Rattle.pcs.specs.declared.Stepped.{Stepped}
-use Rattle.pcs.specs.declared.Reached.{Reached}
+use Rattle.framing.specs.declared.Reached.{Reached}
 
 -- the message of a struct's numbers with its data
 abbrev pub withData : Message → List ℕ → Frame.Message

@@ -3,6 +3,7 @@ mod fields;
 mod writer;
 
 use framing::Answer;
+use framing::Reached;
 use framing::State;
 use framing::refusal;
 ghost use mathlib.Core.Path.{_≡_};
@@ -51,12 +52,6 @@ pub struct Received {
 struct Stepped {
     event: Event,
     state: State,
-}
-
-// What is reached by passing bytes: the state, and the next place of the piece.
-struct Reached {
-    state: State,
-    next: usize,
 }
 
 // Writes the frame of a message at the start of the lent memory, and answers its length.
@@ -259,18 +254,6 @@ fn made(event: Event) -> bool
     }
 }
 
-// The noise from a place on, up to the next start mark.
-fn pass_noise(state: State, piece: &[u8], from: usize) -> Reached
-    requires { ⌜ (state .mode ≡ 0) × (state .count ≤ size) × (from ≤ length (now piece)) ⌝ }
-    ensures { λ r. ⌜ ((store : List ℕ) → Passes (now (piece .entry)) (state, store) from r store) ⌝ }
-{
-    let n = runs::count_before(fields::START, fields::START, &piece[from..]);
-    Reached {
-        state: framing::pass_noise(state, n),
-        next: from + n,
-    }
-}
-
 // The bytes of an open frame from a place on, up to a mark, the size or the end of the piece.
 fn pass_bytes(state: State, store: &mut [u8], piece: &[u8], from: usize) -> Reached
     requires { ⌜ (state .mode ≡ 1) × (state .count ≤ size) × (size ≤ length (now store)) × (from ≤ length (now piece)) ⌝ }
@@ -298,7 +281,7 @@ fn advance(state: State, store: &mut [u8], piece: &[u8], from: usize) -> Reached
 {
     let mode = state.mode;
     if mode == 0 {
-        return pass_noise(state, piece, from);
+        return framing::pass_hunting(state, piece, from, fields::START);
     }
     if mode == 1 {
         return pass_bytes(state, store, piece, from);
