@@ -9,7 +9,7 @@ use Rattle.checksum.specs.Crc.{shift, shifts}
 use Rattle.checksum.proofs.Xor.{xor-half, xor-odd, xor-assoc}
 
 -- of four, the middle two change places
-xor-swap : (a b c d : ℕ) → bitXor (bitXor a b) (bitXor c d) ≡ bitXor (bitXor a c) (bitXor b d)
+pub xor-swap : (a b c d : ℕ) → bitXor (bitXor a b) (bitXor c d) ≡ bitXor (bitXor a c) (bitXor b d)
 xor-swap a b c d =
     xor-assoc a b (bitXor c d)
     ∙ ap (bitXor a) (sym (xor-assoc b c d) ∙ ap (λ (x : ℕ). bitXor x d) (xor-comm b c) ∙ xor-assoc c b d)
@@ -51,6 +51,10 @@ shifts-zeros p (suc j) a = ap (shifts p j) down ∙ shifts-zeros p j a
   where
     down : shift p (a * 2 ^ suc j) ≡ a * 2 ^ j
     down = simp (shifted-half, shifted-even, zero-mul, xor-zero-r)
+
+-- a register of no bits stays one
+pub shifts-none : (p j : ℕ) → shifts p j 0 ≡ 0
+shifts-none p j = ap (shifts p j) (sym (zero-mul (2 ^ j))) ∙ shifts-zeros p j 0
 
 -- j bits leave at once: what the j lowest bits give, xored into the bits above them
 pub shifts-split : (p j x : ℕ) → bitXor (shifts p j (x % 2 ^ j)) (x / 2 ^ j) ≡ shifts p j x

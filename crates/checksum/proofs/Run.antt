@@ -10,7 +10,7 @@ use Rattle.runs.proofs.Bytes.{drop-next, bytes-take, bytes-drop}
 use Rattle.runs.specs.Runs.{Bytes}
 use Rattle.runs.specs.Number.{number}
 use Rattle.checksum.specs.Crc.{shifts, byteStep, run, crc16Of, crc32Of}
-use Rattle.checksum.specs.Nibbles.{AfterBytes}
+use Rattle.checksum.specs.Tables.{AfterBytes}
 use Rattle.checksum.proofs.Xor.{xor-undo, xor-assoc}
 use Rattle.checksum.proofs.Linear.{shifts-add, shifts-sum, shifts-zeros}
 

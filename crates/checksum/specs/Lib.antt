@@ -1,4 +1,5 @@
 pub mod Crc
-pub mod Nibbles
+pub mod Tables
+pub mod Braids
 pub mod Sum
 pub mod Claims

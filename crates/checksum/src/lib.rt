@@ -1,16 +1,23 @@
-// The check values of the links: the CRCs of MDU and of the expansion link, four bytes at a time by tables, and the sum of PCS.
+// The check values of the links: the CRCs of MDU and of the expansion link, by tables, and the sum of PCS.
+mod braid_table;
 mod table;
 
+use braid_table::BRAID16;
+use braid_table::BRAID32;
 use table::NIBBLES16;
 use table::NIBBLES32;
 ghost use mathlib.Core.Path.{_≡_};
-ghost use mathlib.Core.List.{_++_};
+ghost use mathlib.Core.List.{[], _∷_, _++_};
 ghost use Prim.Native.Nat.{ℕ, _+_, _*_, _-_, _/_, _%_, _^_, _≤_, _<_};
 ghost use lib.ListN.{length, take, drop};
 ghost use Rattle.runs.specs.Number.{number};
 ghost use Rattle.checksum.specs.Crc.{shifts, run, crc16Of, crc32Of};
-ghost use Rattle.checksum.specs.Nibbles.{NibbleTable, AfterBytes};
+ghost use Rattle.checksum.specs.Tables.{NibbleTable, BraidTable, AfterBytes};
+ghost use Rattle.checksum.specs.Braids.{StandsFor, Braided};
 ghost use Rattle.checksum.specs.Sum.{totalOf, lowered, sumOf};
+
+// From so many bytes on, a table for long runs is worth its laying out.
+const LONG: usize = 96;
 
 // The table of the CRC of MDU, to be laid out once a call and lent: a constant is copied at each use.
 fn table16() -> [u32; 128]
@@ -24,6 +31,20 @@ fn table32() -> [u32; 128]
     ensures { λ r. ⌜ NibbleTable 0xEDB8_8320 r ⌝ }
 {
     NIBBLES32
+}
+
+// The table of the CRC of MDU for long runs.
+fn braid16() -> [u32; 1024]
+    ensures { λ r. ⌜ BraidTable 0xA001 r ⌝ }
+{
+    BRAID16
+}
+
+// The table of the CRC of the expansion link for long runs.
+fn braid32() -> [u32; 1024]
+    ensures { λ r. ⌜ BraidTable 0xEDB8_8320 r ⌝ }
+{
+    BRAID32
 }
 
 // The entry of a row for the lowest four bits.
@@ -117,12 +138,123 @@ fn after(table: &[u32; 128], start: u32, bytes: &[u8]) -> u32
     after_bytes(table, c, &bytes[whole..])
 }
 
+// The entry of a row for the lowest eight bits.
+fn long_entry(table: &[u32; 1024], row: usize, bits: u32) -> u32
+    requires { ⌜ row < 4 ⌝ }
+    ensures { λ r. ⌜ ((p : ℕ) → BraidTable p (now (table .entry)) → r ≡ shifts p (192 - row * 8) (bits % 256)) ⌝ }
+{
+    table[row * 256 + (bits % 256) as usize]
+}
+
+// All bits of a word leave the register, and those of the five words behind it.
+fn shift192(table: &[u32; 1024], c: u32) -> u32
+    ensures { λ r. ⌜ ((p : ℕ) → BraidTable p (now (table .entry)) → r ≡ shifts p 192 c) ⌝ }
+{
+    let c1 = c / 256;
+    let c2 = c1 / 256;
+    let upper = long_entry(table, 2, c2) ^ long_entry(table, 3, c2 / 256);
+    long_entry(table, 0, c) ^ (long_entry(table, 1, c1) ^ upper)
+}
+
+// Six registers side by side, each of which takes every sixth word; they stand for the register after the bytes before the next place.
+struct Braid {
+    a: u32,
+    b: u32,
+    c: u32,
+    d: u32,
+    e: u32,
+    f: u32,
+    next: usize,
+}
+
+// The registers after as many blocks of six words as leave one block, or more bytes but not two blocks.
+fn after_blocks(table: &[u32; 1024], start: u32, bytes: &[u8]) -> Braid
+    requires { ⌜ 24 ≤ length (now bytes) ⌝ }
+    ensures within { λ r. ⌜ r .next + 24 ≤ length (now (bytes .entry)) ⌝ }
+    ensures braided { λ r. ⌜ ((p : ℕ) → BraidTable p (now (table .entry)) → Braided p start (now (bytes .entry)) (r .next) (r .a ∷ r .b ∷ r .c ∷ r .d ∷ r .e ∷ r .f ∷ [])) ⌝ }
+{
+    let mut a = start;
+    let mut b: u32 = 0;
+    let mut c: u32 = 0;
+    let mut d: u32 = 0;
+    let mut e: u32 = 0;
+    let mut f: u32 = 0;
+    let mut i = 0;
+    while 48 <= bytes.len() - i {
+        a = shift192(table, a ^ word(bytes, i));
+        b = shift192(table, b ^ word(bytes, i + 4));
+        c = shift192(table, c ^ word(bytes, i + 8));
+        d = shift192(table, d ^ word(bytes, i + 12));
+        e = shift192(table, e ^ word(bytes, i + 16));
+        f = shift192(table, f ^ word(bytes, i + 20));
+        i += 24;
+    }
+    Braid {
+        a: a,
+        b: b,
+        c: c,
+        d: d,
+        e: e,
+        f: f,
+        next: i,
+    }
+}
+
+// The register after a block, from registers side by side: each word in turn, with its register.
+fn join(table: &[u32; 128], braid: Braid, block: &[u8]) -> u32
+    requires { ⌜ 24 ≤ length (now block) ⌝ }
+    ensures { λ r. ⌜ ((p c : ℕ) → NibbleTable p (now (table .entry)) → StandsFor p (braid .a ∷ braid .b ∷ braid .c ∷ braid .d ∷ braid .e ∷ braid .f ∷ []) c → AfterBytes p c (now (block .entry)) 24 r) ⌝ }
+{
+    let c1 = shift32(table, braid.a ^ word(block, 0));
+    let c2 = shift32(table, c1 ^ (braid.b ^ word(block, 4)));
+    let c3 = shift32(table, c2 ^ (braid.c ^ word(block, 8)));
+    let c4 = shift32(table, c3 ^ (braid.d ^ word(block, 12)));
+    let c5 = shift32(table, c4 ^ (braid.e ^ word(block, 16)));
+    shift32(table, c5 ^ (braid.f ^ word(block, 20)))
+}
+
+// The register after the bytes of a long run.
+fn after_long(table: &[u32; 128], long: &[u32; 1024], start: u32, bytes: &[u8]) -> u32
+    requires { ⌜ 24 ≤ length (now bytes) ⌝ }
+    ensures { λ r. ⌜ ((p : ℕ) → NibbleTable p (now (table .entry)) → BraidTable p (now (long .entry)) → r ≡ run p start (now (bytes .entry))) ⌝ }
+{
+    let braid = after_blocks(long, start, bytes);
+    let next = braid.next;
+    let rest = &bytes[next..];
+    let c = join(table, braid, rest);
+    after(table, c, &rest[24..])
+}
+
+// The register of the CRC of MDU after the bytes.
+fn after16(table: &[u32; 128], start: u32, bytes: &[u8]) -> u32
+    ensures { λ r. ⌜ (NibbleTable 0xA001 (now (table .entry)) → r ≡ run 0xA001 start (now (bytes .entry))) ⌝ }
+{
+    if bytes.len() < LONG {
+        after(table, start, bytes)
+    } else {
+        let long = braid16();
+        after_long(table, &long, start, bytes)
+    }
+}
+
+// The register of the CRC of the expansion link after the bytes.
+fn after32(table: &[u32; 128], start: u32, bytes: &[u8]) -> u32
+    ensures { λ r. ⌜ (NibbleTable 0xEDB8_8320 (now (table .entry)) → r ≡ run 0xEDB8_8320 start (now (bytes .entry))) ⌝ }
+{
+    if bytes.len() < LONG {
+        after(table, start, bytes)
+    } else {
+        let long = braid32();
+        after_long(table, &long, start, bytes)
+    }
+}
+
 // The CRC of MDU, of these bytes.
 pub fn crc16(bytes: &[u8]) -> u16
     ensures { λ r. ⌜ r ≡ crc16Of (now (bytes .entry)) ⌝ }
 {
     let table = table16();
-    after(&table, 0, bytes) as u16
+    after16(&table, 0, bytes) as u16
 }
 
 // The CRC of the expansion link, of these bytes.
@@ -130,7 +262,7 @@ pub fn crc32(bytes: &[u8]) -> u32
     ensures { λ r. ⌜ r ≡ crc32Of (now (bytes .entry)) ⌝ }
 {
     let table = table32();
-    after(&table, 0xFFFF_FFFF, bytes) ^ 0xFFFF_FFFF
+    after32(&table, 0xFFFF_FFFF, bytes) ^ 0xFFFF_FFFF
 }
 
 // The CRC of the expansion link, of two parts, one after the other.
@@ -138,7 +270,7 @@ pub fn crc32_joined(head: &[u8], tail: &[u8]) -> u32
     ensures { λ r. ⌜ r ≡ crc32Of (now (head .entry) ++ now (tail .entry)) ⌝ }
 {
     let table = table32();
-    after(&table, after(&table, 0xFFFF_FFFF, head), tail) ^ 0xFFFF_FFFF
+    after32(&table, after32(&table, 0xFFFF_FFFF, head), tail) ^ 0xFFFF_FFFF
 }
 
 // The bytes added up, modulo 256.

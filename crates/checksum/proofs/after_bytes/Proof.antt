@@ -5,7 +5,7 @@ use native.Mathlib.Omega.{arith}
 use lib.Bits.{bitXor}
 use lib.ListN.{length}
 use Rattle.checksum.specs.Crc.{shifts}
-use Rattle.checksum.specs.Nibbles.{NibbleTable, AfterBytes}
+use Rattle.checksum.specs.Tables.{NibbleTable, AfterBytes}
 use Rattle.checksum.proofs.Run.{bytes-start, bytes-next, bytes-end}
 use Rattle.checksum.proofs.after_bytes.Statement.{statement}
 use Rattle.checksum.proofs.after_bytes.Tie as tie

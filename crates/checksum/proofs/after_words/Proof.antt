@@ -2,7 +2,7 @@ use Prim.Native.Nat.{ℕ, _-_, _/_, _%_, _*_, _≤_}
 use mathlib.Core.Path.{_≡_, refl, subst}
 use native.Mathlib.Omega.{arith}
 use lib.ListN.{length}
-use Rattle.checksum.specs.Nibbles.{NibbleTable, AfterBytes}
+use Rattle.checksum.specs.Tables.{NibbleTable, AfterBytes}
 use Rattle.checksum.proofs.Run.{bytes-start, bytes-word}
 use Rattle.checksum.proofs.after_words.Statement.{statement}
 use Rattle.checksum.proofs.after_words.Tie as tie

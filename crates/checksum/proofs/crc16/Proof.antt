@@ -9,11 +9,11 @@ use Rattle.checksum.proofs.crc16.Tie as tie
 table16-requires : tie.Need-table16-requires
 table16-requires c κs = search needs
 
-after-requires : tie.Need-after-requires
-after-requires c κs = search needs
+after16-requires : tie.Need-after16-requires
+after16-requires c κs = search needs
 
-value : (c : tie.After-after) → c .after .result ≡ crc16Of (c .before .before .before .before .args .bytes .now)
-value c = c .after .ensures 0xA001 (c .before .before .table16 .ensures)
+value : (c : tie.After-after16) → c .after16 .result ≡ crc16Of (c .before .before .before .before .args .bytes .now)
+value c = c .after16 .ensures (c .before .before .table16 .ensures)
 
 cast-result : tie.Need-cast-result
 cast-result c =
@@ -24,4 +24,4 @@ returns : tie.Need-returns
 returns c = value c
 
 pub crc16-spec : {M : Type 1} → statement M
-crc16-spec = tie.close (tie.spec table16-requires after-requires cast-result returns)
+crc16-spec = tie.close (tie.spec table16-requires after16-requires cast-result returns)

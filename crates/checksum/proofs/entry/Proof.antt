@@ -1,5 +1,7 @@
 use borrow.Author.Needs.{needs}
-use Rattle.checksum.proofs.Nibbles.{row-entry}
+use native.Mathlib.Nat.{mod-lt}
+use lib.Dec.{lit<}
+use Rattle.checksum.specs.Tables.{Rows}
 use Rattle.checksum.proofs.entry.Statement.{statement}
 use Rattle.checksum.proofs.entry.Tie as tie
 
@@ -19,7 +21,8 @@ element-copy-out-result : tie.Need-element-copy-out-result
 element-copy-out-result c = search needs
 
 returns : tie.Need-returns
-returns c p rule = row-entry p _ _ _ rule (c .before .pre)
+unfolding Rows
+returns c p rule = rule _ _ (c .before .pre) (mod-lt _ (lit< tt))
 
 pub entry-spec : {M : Type 1} → statement M
 entry-spec =

@@ -1,0 +1,142 @@
+use Prim.Native.Nat.{ℕ, _+_, _-_, _≤_}
+use mathlib.Core.Path.{ap₂, refl}
+use mathlib.Core.List.{[], _∷_}
+use native.Mathlib.Omega.{arith}
+use lib.ListN.{length}
+use Rattle.checksum.specs.Tables.{BraidTable}
+use Rattle.checksum.specs.Braids.{Braided}
+use Rattle.checksum.proofs.Braids.{both, braid-start, braid-next}
+use Rattle.checksum.proofs.after_blocks.Statement.{statement}
+use Rattle.checksum.proofs.after_blocks.Tie as tie
+
+abbrev Inv-loop : tie.InvT-loop
+Inv-loop table start bytes a₀ b₀ c₀ d₀ e₀ f₀ i₀ a b c d e f i =
+    (i + 24 ≤ length bytes) × ((p : ℕ) → BraidTable p table → Braided p start bytes i (a ∷ b ∷ c ∷ d ∷ e ∷ f ∷ []))
+
+abbrev μ-loop : tie.MeasureT-loop
+μ-loop table start bytes a₀ b₀ c₀ d₀ e₀ f₀ i₀ a b c d e f i = length bytes - i
+
+loop-holds : tie.Need-loop-holds Inv-loop μ-loop
+loop-holds c = (omega arith, λ p rule. braid-start p _ _)
+
+sub-loop : tie.Need-sub-loop Inv-loop μ-loop
+sub-loop c = omega arith
+
+word-requires : tie.Need-word-requires Inv-loop μ-loop
+word-requires c κs = omega arith
+
+shift192-requires : tie.Need-shift192-requires Inv-loop μ-loop
+shift192-requires c κs = tt
+
+add-word : tie.Need-add-word Inv-loop μ-loop
+add-word c = omega arith
+
+word-requires-2 : tie.Need-word-requires-2 Inv-loop μ-loop
+word-requires-2 c κs = omega arith
+
+shift192-requires-2 : tie.Need-shift192-requires-2 Inv-loop μ-loop
+shift192-requires-2 c κs = tt
+
+add-word-2 : tie.Need-add-word-2 Inv-loop μ-loop
+add-word-2 c = omega arith
+
+word-requires-3 : tie.Need-word-requires-3 Inv-loop μ-loop
+word-requires-3 c κs = omega arith
+
+shift192-requires-3 : tie.Need-shift192-requires-3 Inv-loop μ-loop
+shift192-requires-3 c κs = tt
+
+add-word-3 : tie.Need-add-word-3 Inv-loop μ-loop
+add-word-3 c = omega arith
+
+word-requires-4 : tie.Need-word-requires-4 Inv-loop μ-loop
+word-requires-4 c κs = omega arith
+
+shift192-requires-4 : tie.Need-shift192-requires-4 Inv-loop μ-loop
+shift192-requires-4 c κs = tt
+
+add-word-4 : tie.Need-add-word-4 Inv-loop μ-loop
+add-word-4 c = omega arith
+
+word-requires-5 : tie.Need-word-requires-5 Inv-loop μ-loop
+word-requires-5 c κs = omega arith
+
+shift192-requires-5 : tie.Need-shift192-requires-5 Inv-loop μ-loop
+shift192-requires-5 c κs = tt
+
+add-word-5 : tie.Need-add-word-5 Inv-loop μ-loop
+add-word-5 c = omega arith
+
+word-requires-6 : tie.Need-word-requires-6 Inv-loop μ-loop
+word-requires-6 c κs = omega arith
+
+shift192-requires-6 : tie.Need-shift192-requires-6 Inv-loop μ-loop
+shift192-requires-6 c κs = tt
+
+add-i : tie.Need-add-i Inv-loop μ-loop
+add-i c = omega arith
+
+loop-less : tie.Need-loop-less Inv-loop μ-loop
+loop-less c = omega arith
+
+loop-again : tie.Need-loop-again Inv-loop μ-loop
+unfolding both
+loop-again c =
+    let s5 = c .before .before in
+    let s4 = s5 .before .before in
+    let s3 = s4 .before .before in
+    let s2 = s3 .before .before in
+    let s1 = s2 .before .before in
+    let l = s1 .before .before .before in (
+      omega arith,
+      λ p rule. braid-next p _ _ _ _ _ _ _ _ _ _ _ _ _ _ _ (record {
+        bytes = λ i. l .before .shared-slice-known .given i .fits;
+        within = omega arith;
+        at₀ = s1 .before .word .ensures;
+        at₁ = s2 .before .word2 .ensures;
+        at₂ = s3 .before .word3 .ensures;
+        at₃ = s4 .before .word4 .ensures;
+        at₄ = s5 .before .word5 .ensures;
+        at₅ = c .before .word6 .ensures;
+      })
+          (ap₂ _∷_ (s1 .shift192 .ensures p rule)
+          (ap₂ _∷_ (s2 .shift1922 .ensures p rule)
+          (ap₂ _∷_ (s3 .shift1923 .ensures p rule)
+          (ap₂ _∷_ (s4 .shift1924 .ensures p rule)
+          (ap₂ _∷_ (s5 .shift1925 .ensures p rule)
+          (ap₂ _∷_ (c .shift1926 .ensures p rule) refl))))))
+          (l .loop .inv .1 p rule),
+    )
+
+returns : tie.Need-returns Inv-loop μ-loop
+returns c = (c .before .loop .inv .0, c .before .loop .inv .1)
+
+pub after-blocks-spec : {M : Type 1} → statement M
+after-blocks-spec =
+    tie.close
+    (tie.spec
+    Inv-loop
+    μ-loop
+    loop-holds
+    sub-loop
+    word-requires
+    shift192-requires
+    add-word
+    word-requires-2
+    shift192-requires-2
+    add-word-2
+    word-requires-3
+    shift192-requires-3
+    add-word-3
+    word-requires-4
+    shift192-requires-4
+    add-word-4
+    word-requires-5
+    shift192-requires-5
+    add-word-5
+    word-requires-6
+    shift192-requires-6
+    add-i
+    loop-less
+    loop-again
+    returns)
