@@ -1,4 +1,4 @@
-// The bytes of a piece, one by one or, inside a body, as many as the piece has.
+// The bytes of a piece: noise and the bytes of a body as many at once as the piece has, the others one by one.
 use super::Event;
 use super::Message;
 use super::Received;

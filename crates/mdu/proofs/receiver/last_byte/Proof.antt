@@ -8,23 +8,18 @@ use borrow.Author.Needs.{needs}
 use Rattle.mdu.proofs.receiver.last_byte.Statement.{statement}
 use Rattle.mdu.proofs.receiver.last_byte.Tie as tie
 
--- src/receiver.rt:181:5
 slice-write-store : tie.Need-slice-write-store
 slice-write-store c = search needs
 
--- src/receiver.rt:182:9
 finish-frame-requires : tie.Need-finish-frame-requires
 finish-frame-requires c κs = search needs
 
--- src/receiver.rt:183:5
 end-requires : tie.Need-end-requires
 end-requires c κs = search needs
 
--- src/receiver.rt:174:1
 same-length : tie.Need-same-length
 same-length c = search needs
 
--- src/receiver.rt:174:1
 returns : tie.Need-returns
 returns c =
     let s = c .before .before .before .before .before in

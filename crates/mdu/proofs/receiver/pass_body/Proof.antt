@@ -8,63 +8,48 @@ use borrow.Author.Needs.{needs}
 use Rattle.mdu.proofs.receiver.pass_body.Statement.{statement}
 use Rattle.mdu.proofs.receiver.pass_body.Tie as tie
 
--- src/receiver.rt:232:19
 sub-least : tie.Need-sub-least
 sub-least c = search needs
 
--- src/receiver.rt:232:39
 add-least : tie.Need-add-least
 add-least c = search needs
 
--- src/receiver.rt:232:39
 sub-least-2 : tie.Need-sub-least-2
 sub-least-2 c = search needs
 
--- src/receiver.rt:232:9
 least-requires : tie.Need-least-requires
 least-requires c κs = search needs
 
--- src/receiver.rt:233:15
 add-end : tie.Need-add-end
 add-end c = search needs
 
--- src/receiver.rt:234:34
 sub-put-bytes : tie.Need-sub-put-bytes
 sub-put-bytes c = search needs
 
--- src/receiver.rt:234:34
 part-put-bytes-start : tie.Need-part-put-bytes-start
 part-put-bytes-start c = search needs
 
--- src/receiver.rt:234:34
 part-put-bytes-end : tie.Need-part-put-bytes-end
 part-put-bytes-end c = search needs
 
--- src/receiver.rt:234:5
 put-bytes-requires : tie.Need-put-bytes-requires
 put-bytes-requires c κs = search needs
 
--- src/receiver.rt:235:54
 cast-wrapping-add-u32 : tie.Need-cast-wrapping-add-u32
 cast-wrapping-add-u32 c = search needs
 
--- src/receiver.rt:235:9
 wrapping-add-u32-requires : tie.Need-wrapping-add-u32-requires
 wrapping-add-u32-requires c κs = search needs
 
--- src/receiver.rt:238:44
 add-reopen : tie.Need-add-reopen
 add-reopen c = search needs
 
--- src/receiver.rt:238:19
 reopen-requires : tie.Need-reopen-requires
 reopen-requires c κs = search needs
 
--- src/receiver.rt:226:1
 same-length : tie.Need-same-length
 same-length c = search needs
 
--- src/receiver.rt:226:1
 returns : tie.Need-returns
 returns c =
     let p = c .before .before .before .before in

@@ -21,21 +21,17 @@ Inv-loop store₀ piece current₀ i₀ store current i =
 abbrev μ-loop : tie.MeasureT-loop
 μ-loop store₀ piece current₀ i₀ store current i = length piece - i
 
--- src/receiver.rt:267:5
 loop-holds : tie.Need-loop-holds Inv-loop μ-loop
 loop-holds c =
     let s = c .before .before in
     (omega arith, s .pre .0, refl, s .pre .1, passed-none link (s .args .state, s .args .store .now) (s .args .piece .now))
 
--- src/receiver.rt:268:13
 advance-requires : tie.Need-advance-requires Inv-loop μ-loop
 advance-requires c κs = search needs
 
--- src/receiver.rt:272:13
 same-length : tie.Need-same-length Inv-loop μ-loop
 same-length c = search needs
 
--- src/receiver.rt:272:13
 returns : tie.Need-returns Inv-loop μ-loop
 returns c =
     let g = c .before .before .before .before in
@@ -44,11 +40,9 @@ returns c =
     passed-all link (a .state, a .store .now) (g .advance .result .state, g .advance .last .1 .0) (a .piece .now) (g .advance .result .next) (c .if1 .taken)
     (g .advance .ensures .leads .passes (a .state, a .store .now) (l .loop .inv .4))
 
--- src/receiver.rt:278:37
 shared-slice-read-step : tie.Need-shared-slice-read-step Inv-loop μ-loop
 shared-slice-read-step c = search needs
 
--- src/receiver.rt:278:13
 step-requires : tie.Need-step-requires Inv-loop μ-loop
 step-requires c κs =
     let g = c .before .before .before .before .before .before in
@@ -58,19 +52,15 @@ step-requires c κs =
       g .advance .ensures .at-last (omega (arith, c .before .before .if1 .left, g .advance .ensures .leads .within)),
     )
 
--- src/receiver.rt:281:9
 add-i : tie.Need-add-i Inv-loop μ-loop
 add-i c = search needs
 
--- src/receiver.rt:283:12
 made-requires : tie.Need-made-requires Inv-loop μ-loop
 made-requires c κs = search needs
 
--- src/receiver.rt:284:13
 same-length-2 : tie.Need-same-length-2 Inv-loop μ-loop
 same-length-2 c = search needs
 
--- src/receiver.rt:284:13
 returns-2 : tie.Need-returns-2 Inv-loop μ-loop
 returns-2 c =
     let s = c .before .before .before .before .before in
@@ -84,11 +74,9 @@ returns-2 c =
     (g .advance .ensures .leads .passes c₀ (l .loop .inv .4))
     (s .step .ensures .0 .tells) (λ j. (s .step .ensures .0 .state j, s .step .ensures .1 j)) (sym (c .before .made .ensures) ∙ c .if2 .taken)
 
--- src/receiver.rt:267:5
 loop-less : tie.Need-loop-less Inv-loop μ-loop
 loop-less c = search needs
 
--- src/receiver.rt:267:5
 loop-again : tie.Need-loop-again Inv-loop μ-loop
 loop-again c =
     let s = c .before .before .before .before .before in

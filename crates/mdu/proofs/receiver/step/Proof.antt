@@ -4,33 +4,27 @@ use borrow.Author.Needs.{needs}
 use Rattle.mdu.proofs.receiver.step.Statement.{statement}
 use Rattle.mdu.proofs.receiver.step.Tie as tie
 
--- src/receiver.rt:194:9
 hunt-requires : tie.Need-hunt-requires
 hunt-requires c κs = search needs
 
--- src/receiver.rt:194:9
 same-length : tie.Need-same-length
 same-length c = search needs
 
--- src/receiver.rt:194:9
 returns : tie.Need-returns
 returns c =
     let e = eq-eqb _ _ (c .before .before .before .before .if1 .taken) in
     let g = c .before .before .hunt .ensures in
     (simp e (g .0), simp e (g .1))
 
--- src/receiver.rt:197:9
 head-byte-requires : tie.Need-head-byte-requires
 head-byte-requires c κs =
     let s = c .before .before .before .before .before .before .before in
     let o = c .before .before .before .if1 .left in
     (record { mode = known-mode (s .args .state) (s .pre .0) o; room = s .pre .1 }, c .before .if2 .taken)
 
--- src/receiver.rt:197:9
 same-length-2 : tie.Need-same-length-2
 same-length-2 c = search needs
 
--- src/receiver.rt:197:9
 returns-2 : tie.Need-returns-2
 returns-2 c =
     let n = ne-eqb _ _ (c .before .before .before .before .before .before .if1 .left) in
@@ -38,7 +32,6 @@ returns-2 c =
     let g = c .before .before .head-byte .ensures in
     (simp (n, l) (g .0), simp (n, l) (g .1))
 
--- src/receiver.rt:199:5
 last-byte-requires : tie.Need-last-byte-requires
 last-byte-requires c κs =
     let s = c .before .before .before .before .before .before .before in
@@ -46,11 +39,9 @@ last-byte-requires c κs =
     let l = c .before .if2 .left in
     (record { mode = known-mode (s .args .state) (s .pre .0) o; room = s .pre .1 }, known-tail (s .args .state) (s .pre .0) o l, s .pre .2 l)
 
--- src/receiver.rt:187:1
 same-length-3 : tie.Need-same-length-3
 same-length-3 c = search needs
 
--- src/receiver.rt:187:1
 returns-3 : tie.Need-returns-3
 returns-3 c =
     let n = ne-eqb _ _ (c .before .before .before .before .before .before .if1 .left) in
