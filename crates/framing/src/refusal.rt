@@ -1,16 +1,16 @@
-// The numbers that the box refuses with, each given exactly when its line says. No other numbering exists.
+// The numbers that the box refuses with, each given exactly when its line says (docs/RULES.md). No other numbering exists.
 
-// The receiver's store is shorter than the link's size.
+// A receiver is lent a store below the link's size.
 pub const STORE_SHORT: u8 = 1;
-// The lent output is shorter than the exact result.
+// The memory lent for the result cannot hold it.
 pub const OUTPUT_SHORT: u8 = 2;
-// The message may not be sent: a field or a length breaks the link's rules.
+// The link does not allow the message: one of its fields, or how long it is.
 pub const UNSENDABLE: u8 = 3;
-// A new start mark comes while a frame is open.
+// A start mark inside an open frame.
 pub const NEW_START: u8 = 4;
-// One byte more than the link's size is gathered.
+// A byte to gather when the link's size is reached.
 pub const TOO_LONG: u8 = 5;
-// A frame ends below the least size, or a run lent as one frame is not one.
+// The end of a frame below the least size, or a run lent as a whole frame that is none.
 pub const TOO_SHORT: u8 = 6;
 // A hidden byte is wrongly coded.
 pub const WRONG_CODE: u8 = 7;
@@ -22,7 +22,7 @@ pub const WRONG_FIELD: u8 = 9;
 pub const WRONG_LENGTH: u8 = 10;
 // A PCS frame asks for a CRC.
 pub const CRC_ASKED: u8 = 11;
-// A state that no receiver or exchange leaves.
+// A state whose mode is none of its kind, whose count passes the link's size or is not 0 while it hunts, whose repeat passes 3, or as MDU adds.
 pub const UNKNOWN_STATE: u8 = 12;
 // PCS data is badly packed.
 pub const BADLY_PACKED: u8 = 13;
