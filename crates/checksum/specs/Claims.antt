@@ -7,7 +7,7 @@ use lib.ListN.{length, getElem?}
 use Rattle.runs.specs.Runs.{Bytes}
 use Rattle.checksum.specs.Crc.{run, crc16Of, crc32Of}
 
--- two runs differ only within n neighbouring bytes: for some k they agree below place k and from place k + n on
+-- outside the n bytes from some place k on, the two runs hold the same
 pub record DifferWithin (n : ℕ) (u v : List ℕ) : Type 0 where
   pub k : ℕ
   pub below : (i : ℕ) → i < k → getElem? u i ≡ getElem? v i

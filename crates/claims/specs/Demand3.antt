@@ -1,4 +1,4 @@
--- Demand 3, whole: over all four links and any two lists of calls, and both check values.
+-- Demand 3, whole: each of the four links, whatever two lists of calls, and the two CRCs.
 use Rattle.framing.specs.Claims as Claims
 use Rattle.checksum.specs.Claims.{Crc16Detects, Crc32Detects}
 use Rattle.claims.specs.Links.{Which, linkOf}

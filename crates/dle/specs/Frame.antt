@@ -23,7 +23,7 @@ abbrev pub ok : Message → Bool
 ok (content s n d) = leb 1 (length d) && leb (length d) 255
 ok (error s n e) = true
 
--- sequence, node, length, data; length 0 marks an error message, with exactly one error byte
+-- sequence, node, length and data; an error message has length 0 and then its error byte
 abbrev pub payload : Message → List ℕ
 payload (content s n d) = s ∷ n ∷ length d ∷ d
 payload (error s n e) = s ∷ n ∷ 0 ∷ e ∷ []

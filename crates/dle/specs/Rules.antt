@@ -51,7 +51,7 @@ act g wire start = (inside false [], some (refused 4 (held (inside false g))))
 act g wire end = (hunting, some (judge g wire))
 act g wire wrong = (hunting, some (refused 7 wire))
 
--- hunting, 10 followed by 02 opens, and 10 with any other byte, 10 too, is two bytes of noise
+-- a 10 that no 02 follows opens nothing: both bytes are noise, even if the second is a 10
 abbrev pub cut : Phase → ℕ → Phase × Option (Segment Message)
 cut hunting b = cond (eqb b 0x10) (half, none) (hunting, some (noise (b ∷ [])))
 cut half b = cond (eqb b 0x02) (inside false [], none) (hunting, some (noise (0x10 ∷ b ∷ [])))

@@ -368,7 +368,7 @@ fn advance(state: State, store: &mut [u8], piece: &[u8], from: usize) -> Reached
     }
 }
 
-// The bytes of a piece, up to and including the first that makes an event.
+// The bytes of a piece, until one makes an event.
 fn scan(state: State, store: &mut [u8], piece: &[u8]) -> Received
     requires { ⌜ (state .count ≤ size) × (size ≤ length (now store)) ⌝ }
     ensures { λ r. ⌜ answerOf r (now (store .exit)) ≡ answered link (feed (stepOn link) (state, now (store .entry)) (now (piece .entry))) ⌝ }
@@ -401,7 +401,7 @@ fn scan(state: State, store: &mut [u8], piece: &[u8]) -> Received
     }
 }
 
-// A call of the receiver: uses the bytes of the piece up to and including the first that makes an event, else all.
+// A call of the receiver: uses the bytes of the piece until one makes an event, that one included.
 pub fn receive(state: State, store: &mut [u8], piece: &[u8]) -> Received
     ensures { λ r. ⌜ answerOf r (now (store .exit)) ≡ answer link (state, now (store .entry)) (now (piece .entry)) ⌝ }
 {
@@ -424,7 +424,7 @@ pub fn receive(state: State, store: &mut [u8], piece: &[u8]) -> Received
     }
 }
 
-// The data of a message, as a part of the store; an empty part where it does not lie in the store.
+// The data of a message, as a part of the store; empty where the numbers reach beyond the store.
 pub fn data(store: &[u8], message: Message) -> &[u8]
     ensures { λ r. ⌜ now r ≡ dataOf (now (store .entry)) message ⌝ }
 {

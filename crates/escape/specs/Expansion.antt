@@ -1,4 +1,4 @@
--- The expansion code: between the marks FD, FE, FF become FF 02, FF 01, FF 00.
+-- The expansion code: a byte b from FD on is sent as FF and then FF - b.
 use Prim.Native.Nat.{ℕ}
 use mathlib.Core.Bool.{cond}
 use mathlib.Core.List.{List, [], _∷_}

@@ -12,7 +12,7 @@ use Rattle.expansion.specs.Frame.{Message, ok, frame}
 use Rattle.expansion.specs.Rules.{gathered}
 use Rattle.expansion.specs.Contract.{phaseOf, link}
 
--- a frame never takes more than 2,066 wire bytes
+-- the longest frame has 2,066 bytes on the wire
 abbrev pub FrameBound : Type 0
 FrameBound = (m : Message) → ok m ≡ true → length (frame m) ≤ 2066
 

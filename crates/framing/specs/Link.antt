@@ -74,7 +74,7 @@ module _ (L : Link) where
   abbrev pub refuses : ℕ → Lent → Fed (Event (L .Message)) Lent
   refuses n c = record { event = some (refusal n); used = 0; after = c }
 
-  -- a call: 12, then 1; else the bytes up to and including the first that makes an event
+  -- a call: 12, then 1; else byte after byte until one makes an event
   abbrev pub callOn : Lent → List ℕ → Fed (Event (L .Message)) Lent
   callOn c piece =
       cond (L .known (c .0)) (cond (leb (L .size) (length (c .1))) (feed stepOn c piece) (refuses 1 c)) (refuses 12 c)

@@ -25,7 +25,7 @@ stop c none rest = later 1 rest
 stop c (some e) rest = record { event = some e; used = 1; after = c }
 
 module _ {C E : Type 0} (step : C → ℕ → C × Option E) where
-  -- one call: the bytes up to and including the first that makes an event, else all
+  -- one call: byte after byte until one makes an event, that one included
   abbrev pub feed : C → List ℕ → Fed E C
   feed c [] = record { event = none; used = 0; after = c }
   feed c (b ∷ bs) = stop (step c b .0) (step c b .1) (feed (step c b .0) bs)

@@ -23,7 +23,7 @@ module _ {M : Type 0} where
   eventOf (some (refused n bs)) = some (refusal n)
   eventOf (some (accepted m)) = some (message m)
 
-  -- noise is counted in 32 bits and goes round
+  -- the noise count is taken modulo 2^32
   abbrev pub noiseAfter : Option (Segment M) → ℕ → ℕ
   noiseAfter none n = n
   noiseAfter (some (noise bs)) n = (n + length bs) % 2 ^ 32

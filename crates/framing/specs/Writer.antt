@@ -19,7 +19,7 @@ abbrev pub keeps : {M : Type 0} → M → Outcome ℕ → List M → List M
 keeps m (done n) ms = m ∷ ms
 keeps m (refused n) ms = ms
 
--- .. and the bytes that it left at the start of its memory
+-- .. and the frame's bytes, the first ones of its memory
 abbrev pub leaves : List ℕ → Outcome ℕ → List ℕ → List ℕ
 leaves memory (done n) bs = take n memory ++ bs
 leaves memory (refused n) bs = bs

@@ -48,7 +48,7 @@ acknowledges head a m =
       after = handOut a (m .id) (m .repeat) .1;
     }
 
--- a frame whose check differs is answered by type 2 with the id as gathered, at place 0 of the store; the address was gathered at place 3
+-- the answer to an 8: a check error with the gathered id, which stands at place 0 of the store; the gathered address stands at place 3
 abbrev pub reports : Bool → Answering → List ℕ → Answered
 reports head a store = record { reply = some (reply head 2 (getD store 0 0) (getD store 3 0)); handsOut = false; after = a }
 

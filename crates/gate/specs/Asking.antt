@@ -36,7 +36,7 @@ known e = leb (e .mode) 1 && leb (e .repeat) 3
 abbrev pub since : ℕ → ℕ → ℕ
 since now sent = (now + (2 ^ 32 - sent)) % 2 ^ 32
 
--- a wait is over when that is at least 100, so a clock set back ends it early
+-- a wait lasts 100 milliseconds; set the clock back, and the difference goes round and ends it
 abbrev pub waitOver : ℕ → ℕ → Bool
 waitOver now sent = leb 100 (since now sent)
 

@@ -9,7 +9,7 @@ pub data Hop : Type 0 where
   onward : (address : ℕ) → Hop
   refused : ℕ → Hop
 
--- downward one less, and 0 afterwards means here; 0 before gives 15
+-- downward one less: a 1 has arrived, a 0 cannot step
 abbrev pub stepsDown : ℕ → Hop
 stepsDown address = cond (eqb address 0) (refused 15) (cond (eqb (address - 1) 0) here (onward (address - 1)))
 

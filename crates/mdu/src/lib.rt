@@ -69,7 +69,7 @@ pub fn write(address: u8, body: &[u8], out: &mut [u8]) -> Answer
     }
 }
 
-// A call of the receiver: uses the bytes of the piece up to and including the first that makes an event, else all.
+// A call of the receiver: uses the bytes of the piece until one makes an event, that one included.
 pub fn receive(state: State, store: &mut [u8], piece: &[u8]) -> Received
     ensures { λ r. ⌜ answerOf r (now (store .exit)) ≡ answer link (state, now (store .entry)) (now (piece .entry)) ⌝ }
 {
@@ -92,7 +92,7 @@ pub fn receive(state: State, store: &mut [u8], piece: &[u8]) -> Received
     }
 }
 
-// The body of a message, as a part of the store; an empty part where it does not lie in the store.
+// The body of a message, as a part of the store; empty where the numbers reach beyond the store.
 pub fn data(store: &[u8], message: Message) -> &[u8]
     ensures { λ r. ⌜ now r ≡ dataOf (now (store .entry)) message ⌝ }
 {

@@ -271,7 +271,7 @@ fn advance(state: State, store: &mut [u8], piece: &[u8], from: usize) -> Reached
     pass_body(state, store, piece, from)
 }
 
-// The bytes of a piece, up to and including the first that makes an event.
+// The bytes of a piece, until one makes an event.
 pub(crate) fn scan(state: State, store: &mut [u8], piece: &[u8]) -> Received
     requires { ⌜ (knownState state ≡ true) × (size ≤ length (now store)) ⌝ }
     ensures { λ r. ⌜ answerOf r (now (store .exit)) ≡ answered link (feed (stepOn link) (state, now (store .entry)) (now (piece .entry))) ⌝ }

@@ -1,11 +1,11 @@
--- Packing: each group of up to seven data bytes gives its low seven bits, then one byte of the top bits.
+-- Packing: data goes out in groups of at most seven bytes, seven bits of each and then one byte with the top bits.
 use Prim.Native.Nat.{ℕ, zero, suc, _+_, _*_, _/_, _%_, _^_}
 use mathlib.Core.List.{List, [], _∷_, _++_, map}
 use lib.ListN.{length, take, drop}
 use Rattle.packing.specs.Seven.{sent}
 
 -- in the byte of the top bits the last of k bytes stands at this place, and each byte before it one place higher: of seven the
--- first at place 6 and the seventh at place 0; a shorter group keeps its last byte at place 0
+-- first at place 6 and the seventh at place 0; a shorter group ends at place 0 too
 unfoldable pub lastPlace : ℕ → ℕ
 lastPlace k = 0
 

@@ -3,7 +3,7 @@ use Prim.Native.Nat.{ℕ}
 use mathlib.Core.Bool.{Bool, cond, _&&_}
 use lib.Dec.{eqb, leb}
 
--- a value goes out as itself, 0 as 128
+-- a value is sent as it is, but for 0, which is sent as 128
 abbrev pub sent : ℕ → ℕ
 sent v = cond (eqb v 0) 128 v
 

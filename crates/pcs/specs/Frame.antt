@@ -35,7 +35,7 @@ plainOk b = leb 1 b && leb b 250
 abbrev pub receiverOk : ℕ → Bool
 receiverOk b = plainOk b || eqb b 255
 
--- kinds 0 plain, 1 asks acknowledgement, 2 positive, 3 negative; the latter two carry no data
+-- kind 0 is plain, 1 asks for an acknowledgement; 2 and 3 are the positive and the negative one, without data
 abbrev pub kindOk : ℕ → ℕ → Bool
 kindOk kind length = leb kind 1 || (leb kind 3 && eqb length 0)
 

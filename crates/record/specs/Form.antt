@@ -12,7 +12,7 @@ use Rattle.record.specs.declared.Head.{Head}
 abbrev pub form : ℕ → Bool → ℕ → Form
 form s b l = record { size = s; signed = b; limit = l }
 
--- the decision over the type: 1 byte, 2 word, 3 integer, 4 long integer, 5 double word; any other number has size and limit 0
+-- the decision over the type, from 1 on: byte, word, integer, long integer, double word; any other number has size and limit 0
 unfoldable pub formOf : ℕ → Form
 formOf kind =
     cond (eqb kind 1) (form 1 false 2000)

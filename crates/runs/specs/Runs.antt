@@ -15,7 +15,7 @@ Bytes u = (i : ℕ) → getD u i 0 < 256
 abbrev pub over : {A : Type 0} → List A → List A → List A
 over run memory = run ++ drop (length run) memory
 
--- xs begins ys: it is at most as long, and the two are equal at each place that it has
+-- xs begins ys: ys has every place of xs, and holds the same there
 abbrev pub Begins : {A : Type 0} → List A → List A → Type 0
 Begins xs ys = (length xs ≤ length ys) × ((i : ℕ) → i < length xs → getElem? xs i ≡ getElem? ys i)
 

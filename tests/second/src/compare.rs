@@ -26,7 +26,7 @@ pub trait Host {
     fn expansion_read(&self, frame: &[u8], store: &mut [u8]) -> u64;
 }
 
-/// Writers answer the frame's length, or minus the refusal number.
+/// A writer's answer in C: a length, or a refusal as a negative number.
 fn writer_answer(result: Result<usize, u8>) -> i32 {
     match result {
         Ok(length) => length as i32,

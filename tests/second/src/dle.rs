@@ -1,7 +1,7 @@
 //! DLE link (source document 003).
 //!
-//! 10 02; sequence; node; length; data; 10 03 (hex). Between the marks every
-//! 10 is doubled. Length 0 marks an error message with exactly one error byte.
+//! Marks 10 02 and 10 03 (hex) round sequence, node, length and data, where a 10
+//! is sent twice. An error message has length 0 and one error byte.
 
 use crate::escape;
 use crate::stream::{self, Event, Link, State};
@@ -111,7 +111,7 @@ impl Link for Dle {
                     state.mode = OPEN;
                     state.open = 2;
                 } else {
-                    // 10 with any other byte, 10 too, is two bytes of noise.
+                    // Without a 02 both bytes are noise, even 10 10.
                     state.mode = HUNTING;
                     state.open = 0;
                     state.noise = state.noise.wrapping_add(2);

@@ -12,7 +12,7 @@ pub fn double(bytes: &[u8]) -> Vec<u8> {
     hidden
 }
 
-/// Expansion: FD, FE, FF become FF 02, FF 01, FF 00.
+/// Expansion: the three highest bytes go out as FF and a code, FF 02 for FD.
 pub fn hide(bytes: &[u8]) -> Vec<u8> {
     let mut hidden = Vec::new();
     for byte in bytes {

@@ -1,6 +1,6 @@
 //! The gate exchange (asking end and answering end) and the chain address.
 
-/// The asking end's state. Any numbers may stand in it; fresh is all zeros.
+/// The asking end's state, of any numbers; all are 0 in a fresh one.
 /// `id` is the waiting id while waiting and the next one to be used while idle.
 #[derive(Clone, Copy, Debug, Default, PartialEq, Eq)]
 pub struct Asking {
@@ -48,7 +48,7 @@ pub fn start(asking: Asking, now: u32) -> (Asking, Answer) {
     (waiting, Answer::Send { id: asking.id, repeat: 0 })
 }
 
-/// Resend with repeat plus 1; if the repeat was already 3, give up.
+/// Sends again with the next repeat, or gives up after the third.
 fn again(asking: Asking, now: u32) -> (Asking, Answer) {
     if asking.repeat == 3 {
         return (idle(asking), Answer::GivenUp);
@@ -57,7 +57,7 @@ fn again(asking: Asking, now: u32) -> (Asking, Answer) {
     (resent, Answer::Send { id: resent.id, repeat: resent.repeat })
 }
 
-/// The clock: the wait is over when now less sent, going round, is at least 100.
+/// The clock: a wait lasts 100 milliseconds, reckoned modulo 2^32.
 pub fn tick(asking: Asking, now: u32) -> (Asking, Answer) {
     if odd(asking) {
         return (asking, Answer::Refused(12));
@@ -100,13 +100,13 @@ pub struct Reply {
     pub address: u8,
 }
 
-/// Address 0 from a board; from the head, the address as it arrived.
+/// A board replies with address 0, the head with the one of the frame.
 fn reply(id: u8, kind: u8, head: bool, address: u8) -> Reply {
     Reply { id, kind, repeat: 0, address: if head { address } else { 0 } }
 }
 
-/// An accepted frame: every request is acknowledged, and handed out unless its
-/// id is the last handed out and its repeat is above 0. Gives the new state,
+/// An accepted frame: every request is acknowledged; a repeat of the request
+/// handed out last is not handed out again. Gives the new state,
 /// the reply and whether the request is handed out.
 pub fn accepted(answering: Answering, head: bool, id: u8, kind: u8, repeat: u8, address: u8) -> (Answering, Option<Reply>, bool) {
     if kind != 0 {
@@ -119,7 +119,7 @@ pub fn accepted(answering: Answering, head: bool, id: u8, kind: u8, repeat: u8, 
     (Answering { handed: true, id }, acknowledgement, true)
 }
 
-/// A refused frame: number 8 is answered by type 2 with the id as gathered.
+/// A refused frame: an 8 gets a check error that bears the gathered id.
 /// No reply where the store can't hold an address (left free by the paper).
 pub fn refused(head: bool, number: u8, store: &[u8]) -> Option<Reply> {
     if number != 8 || store.len() < 4 {
@@ -128,7 +128,7 @@ pub fn refused(head: bool, number: u8, store: &[u8]) -> Option<Reply> {
     Some(reply(store[0], 2, head, store[3]))
 }
 
-/// Downward an address steps down by one; 0 before gives 15.
+/// One step down the chain; none from 0.
 pub fn down(address: u8) -> Result<u8, u8> {
     address.checked_sub(1).ok_or(15)
 }

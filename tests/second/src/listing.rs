@@ -19,7 +19,7 @@ fn listed<L: Link>(letter: char, wire: &[u8]) -> String {
     while !rest.is_empty() {
         let received = stream::receive::<L>(rest, state, &mut store);
         state = received.state;
-        // The rest of the piece, from its middle, is handed on.
+        // What lies behind the event goes to the next call.
         rest = &rest[received.used..];
         match received.event {
             Event::Nothing => {}

@@ -1,6 +1,6 @@
 //! PCS packing: 7-bit values, and eight-bit data in groups of up to seven.
 
-/// A 7-bit value goes out as itself, 0 as 128.
+/// A value of seven bits as it is sent: 128 stands for 0.
 pub fn seven_out(value: u8) -> u8 {
     if value == 0 {
         128
@@ -18,7 +18,7 @@ pub fn seven_in(byte: u8) -> Option<u8> {
     }
 }
 
-/// Each group gives its low seven bits, then one byte of the top bits:
+/// A group goes out as seven bits of each byte and one byte of top bits:
 /// the last byte of the group at place 0, the one before it at place 1, and so
 /// on, so the first of seven is at place 6. Unused places are 0.
 pub fn pack(data: &[u8]) -> Vec<u8> {
@@ -70,7 +70,7 @@ mod tests {
     }
 
     #[test]
-    fn short_group_keeps_its_last_byte_at_place_0() {
+    fn short_group_ends_at_place_0() {
         assert_eq!(pack(&[0x80]), vec![128, 1]);
         assert_eq!(pack(&[0x80, 0x01]), vec![128, 1, 2]);
         assert_eq!(pack(&[0x01, 0x80]), vec![1, 128, 1]);

@@ -19,7 +19,7 @@ const END: u8 = 254;
 pub struct Message {
     pub receiver: u8,
     pub sender: u8,
-    /// 0 plain, 1 asks acknowledgement, 2 positive, 3 negative.
+    /// 0 plain, 1 asks for an acknowledgement, 2 and 3 are the positive and the negative one.
     pub kind: u8,
     pub number: u8,
     pub sender_port: u8,
@@ -152,7 +152,7 @@ impl Link for Pcs {
                 }
             };
         }
-        // One byte more than the link's size is not stored.
+        // The byte that is one too many is not stored.
         if state.count as usize == Self::SIZE {
             stream::hunt(state);
             return Event::Refused(5);

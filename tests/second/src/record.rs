@@ -1,6 +1,6 @@
 //! Fare records (source document 001, cut down by document 01).
 //!
-//! Type; address (two bytes); count (two bytes); elements; low byte first.
+//! Low byte first: type in one byte, address and count in two each, elements.
 
 /// Element size, signedness, and the most that address plus count may be.
 struct Kind {
@@ -161,7 +161,7 @@ pub fn write_signed(number: u8, address: u16, fares: &[i32], out: &mut [u8]) -> 
     write(number, address, &fares, true, out)
 }
 
-/// The record view: keeps hold of the lent payload. Any numbers may stand in it.
+/// The record view, on a lent payload; type and count may be any numbers.
 #[derive(Clone, Copy, Debug)]
 pub struct View<'a> {
     pub payload: &'a [u8],
@@ -176,8 +176,7 @@ pub fn view(payload: &[u8]) -> Result<View<'_>, u8> {
 }
 
 impl View<'_> {
-    /// 16 unless the payload is a well-formed record whose type and count are
-    /// the view's.
+    /// 16 where the payload is malformed or has another type or count than the view.
     fn held(&self) -> Result<(), u8> {
         let head = head(self.payload)?;
         if self.payload[0] != self.number || head.count != self.count {

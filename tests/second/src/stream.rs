@@ -8,7 +8,7 @@
 #[derive(Clone, Copy, Debug, Default, PartialEq, Eq)]
 pub struct State {
     pub mode: u32,
-    /// Bytes gathered: places 0 to count - 1 of the store.
+    /// How many bytes are gathered; they stand at the front of the store.
     pub count: u32,
     /// MDU: the stated length, from byte six on.
     pub length: u32,
@@ -56,16 +56,16 @@ pub trait Link {
     fn answer(message: &Self::Message) -> u64;
 }
 
-/// 12 for every link: an unknown mode, a count above the link's size or,
-/// hunting, above 0. Modes below `hunting` hunt, those below `known` are known.
+/// What gives 12 on every link: a mode that it has not, or a count that is too
+/// high, while hunting already above 0. Modes below `hunting` hunt, those below `known` are known.
 pub fn odd(state: State, known: u32, hunting: u32, size: usize) -> bool {
     state.mode >= known
         || state.count as usize > size
         || (state.mode < hunting && state.count > 0)
 }
 
-/// One call: tests 12, then 1, then uses bytes up to and including the first
-/// that makes an event, else all of them.
+/// One call: tests 12, then 1, then takes byte after byte until one makes an
+/// event, that one included.
 pub fn receive<L: Link>(piece: &[u8], state: State, store: &mut [u8]) -> Received<L::Message> {
     if L::odd(state) {
         return Received { used: 0, state, event: Event::Refused(12) };

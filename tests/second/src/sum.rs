@@ -5,7 +5,7 @@ pub fn modulo_256(bytes: &[u8]) -> u8 {
     bytes.iter().fold(0u8, |sum, byte| sum.wrapping_add(*byte))
 }
 
-/// PCS: what a raw sum goes out as: above 250 take away 128; then 0 becomes 128.
+/// PCS: a raw sum as it goes out, never above 250 and never 0.
 pub fn sent_as(raw: u8) -> u8 {
     let lowered = if raw > 250 { raw - 128 } else { raw };
     if lowered == 0 {
@@ -15,7 +15,7 @@ pub fn sent_as(raw: u8) -> u8 {
     }
 }
 
-/// PCS: the sum over the sent bytes, from the receiver address through the data.
+/// PCS: the sum over a body as sent.
 pub fn pcs(sent: &[u8]) -> u8 {
     sent_as(modulo_256(sent))
 }

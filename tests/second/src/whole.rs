@@ -2,12 +2,11 @@
 
 use crate::stream::{self, Event, Link, State};
 
-/// Bits 0 to 7 the refusal number, and then nothing else; 0 for a message, and
-/// then the link's bits 8 to 63.
+/// A refusal is its number; a message has 0 there, in bits 0 to 7, and the link's
+/// own bits above.
 ///
-/// 1 first; then a fresh receiver's first event if that is a refusal, or a
-/// message of exactly those bytes; else 6. The store is left as that one call
-/// leaves it.
+/// After 1, one call of a fresh receiver decides, and leaves the store: its
+/// refusal stands; a message stands if the run is its frame and no more; all else is 6.
 pub fn read<L: Link>(frame: &[u8], store: &mut [u8]) -> u64 {
     let received = stream::receive::<L>(frame, State::default(), store);
     match received.event {
