@@ -35,7 +35,7 @@ FRAMES = [
 
 
 def frames():
-    parts, y = [], 20
+    parts, y = [text(20, 24, "Bytes of PCS are in decimal, those of the other links in hex. Below each field: how many bytes it has, in decimal.", 12, "start")], 44
     for name, note, fields in FRAMES:
         parts += [text(20, y + 14, name, 16, "start", "bold"), text(130, y + 14, note, 12, "start", fill="#555")]
         x = 20
@@ -72,25 +72,25 @@ def two(y, title, opens, stays_hunting, stays_open, ends):
 
 
 def receivers():
-    p = [TIP]
-    p += two(30, "PCS", "253", "any other byte: noise", "253: refusal 4, a new frame\nany other byte: gathered", "254: message, or 6, 11, 8, 9, 10, 13\na byte too many: 5")
-    p += two(220, "MDU", "E3, gathered", "any other byte: noise", "any byte: gathered", "byte six: 9, 8, 10\nlast byte: message, or 8")
-    y = 410
+    p = [TIP, text(20, 24, "Bytes of PCS are in decimal, those of the other links in hex. Refusal numbers are in decimal.", 12, "start")]
+    p += two(60, "PCS", "253", "any other byte: noise", "253: refusal 4, a new frame\nany other byte: gathered", "254: message, or refusal 6, 11, 8, 9, 10, 13\na byte too many: refusal 5")
+    p += two(250, "MDU", "E3, gathered", "any other byte: noise", "any byte: gathered", "byte six: refusal 9, 8, 10\nlast byte: message, or refusal 8")
+    y = 440
     p += [text(20, y, "DLE", 16, "start", "bold")]
     p += state(140, y + 70, 0, "hunting") + state(380, y + 70, 1, "10 waits") + state(620, y + 70, 2, "open", True) + state(860, y + 70, 3, "open, 10 waits", True)
-    p += arrow(215, y + 60, 305, y + 60, "10", 260, y + 48, -14) + arrow(305, y + 82, 215, y + 82, "any other:\n2 noise", 260, y + 102, 14)
+    p += arrow(215, y + 60, 305, y + 60, "10", 260, y + 48, -14) + arrow(305, y + 82, 215, y + 82, "any other:\nboth noise", 260, y + 102, 14)
     p += arrow(455, y + 70, 545, y + 70, "02", 500, y + 62)
     p += arrow(695, y + 60, 785, y + 60, "10", 740, y + 48, -14) + arrow(785, y + 82, 695, y + 82, "10: gathered\n02: refusal 4", 740, y + 102, 14)
     p += arrow(100, y + 94, 180, y + 94, "any other byte: noise", 140, y + 138, 44) + arrow(580, y + 94, 660, y + 94, "any other byte: gathered", 620, y + 138, 44)
-    p += arrow(860, y + 46, 160, y + 46, "03: message, or 6, 10; any other byte: 7; a byte too many, in either open mode: 5", 510, y + 6, -56)
-    y = 620
+    p += arrow(860, y + 46, 160, y + 46, "03: message, or refusal 6, 10; any other byte: refusal 7; a byte too many, in either open mode: refusal 5", 510, y + 6, -56)
+    y = 650
     p += [text(20, y, "Expansion", 16, "start", "bold")]
     p += state(140, y + 70, 0, "hunting") + state(500, y + 70, 1, "open", True) + state(860, y + 70, 2, "open, FF waits", True)
-    p += arrow(215, y + 60, 425, y + 60, "FD", 320, y + 44, -18) + arrow(425, y + 82, 215, y + 82, "FE: message, or 6, 8, 9\na byte too many: 5", 320, y + 106, 18)
+    p += arrow(215, y + 60, 425, y + 60, "FD", 320, y + 44, -18) + arrow(425, y + 82, 215, y + 82, "FE: message, or refusal 6, 8, 9\na byte too many: refusal 5", 320, y + 106, 18)
     p += arrow(575, y + 60, 785, y + 60, "FF", 680, y + 44, -18) + arrow(785, y + 82, 575, y + 82, "00, 01, 02: gathered\nFD: refusal 4, a new frame", 680, y + 106, 18)
     p += arrow(100, y + 94, 180, y + 94, "any other byte: noise", 140, y + 138, 44)
     p += arrow(460, y + 94, 540, y + 94, "FD: refusal 4, a new frame\nany other byte: gathered", 500, y + 138, 44)
-    p += arrow(860, y + 46, 160, y + 46, "any other byte, FE too: 7; a byte too many: 5", 510, y + 6, -52)
+    p += arrow(860, y + 46, 160, y + 46, "any other byte, FE too: refusal 7; a byte too many: refusal 5", 510, y + 6, -52)
     return svg(960, y + 180, p)
 
 
