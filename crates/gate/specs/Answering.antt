@@ -56,7 +56,7 @@ reports head a store = record { reply = some (reply head 2 (getD store 0 0) (get
 abbrev pub accepts : Bool → Answering → Message → Answered
 accepts head a m = cond (eqb (m .kind) 0) (acknowledges head a m) (silent a)
 
--- a refused frame: 8 is answered, but not out of a store of fewer than four bytes; other numbers get no reply
+-- a refused frame: 8 is answered, but not out of a store below four bytes (which the papers leave free); other numbers get no reply
 abbrev pub refuses : Bool → Answering → ℕ → List ℕ → Answered
 refuses head a n store = cond (eqb n 8 && leb 4 (length store)) (reports head a store) (silent a)
 

@@ -12,7 +12,8 @@ use Rattle.record.specs.declared.Head.{Head}
 abbrev pub form : ℕ → Bool → ℕ → Form
 form s b l = record { size = s; signed = b; limit = l }
 
--- the decision over the type, from 1 on: byte, word, integer, long integer, double word; any other number has size and limit 0
+-- the decision over the type, from 1 on: byte, word, integer, long integer, double word; any other number has size and limit 0 (free in
+-- the papers: it is not a type)
 unfoldable pub formOf : ℕ → Form
 formOf kind =
     cond (eqb kind 1) (form 1 false 2000)
@@ -59,6 +60,6 @@ wellFormed r =
 abbrev pub head : ℕ → ℕ → Head
 head k n = record { kind = k; count = n }
 
--- the type and the count of a well-formed record; of any other run, 0 and 0
+-- the type and the count of a well-formed record; of any other run, where the papers leave them free, 0 and 0
 unfoldable pub headOf : List ℕ → Head
 headOf r = cond (wellFormed r) (head (kindOf r) (countOf r)) (head 0 0)
