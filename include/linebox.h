@@ -13,7 +13,8 @@
  * argument. The other runs of bytes are only read. A length of 0 takes any pointer, NULL too; with any other length the
  * pointer is to that many bytes.
  *
- * Single numbers are bytes. A byte that a link does not allow is refused by the call, never cut to fit.
+ * Single numbers are bytes. A byte that a link does not allow is refused by the call. A larger number that C is given for
+ * such a parameter is cut to its lowest eight bits by the language, before the call: test it first where that can happen.
  */
 #ifndef LINEBOX_H
 #define LINEBOX_H
@@ -99,8 +100,10 @@ int32_t linebox_expansion_write(uint8_t id, uint8_t type, uint8_t repeat, uint8_
  *
  * The store is where the frame is gathered. It has to have LINEBOX_.._STORE bytes at least, and may hold anything. After
  * a message was read its data lies in the store from place LINEBOX_.._DATA on, until the store is used again; a DLE error
- * message has no data. What a refused frame leaves in the store is of no use, except that a store that is too short is
- * left unchanged.
+ * message has no data.
+ * A store that is too short is left unchanged. Any other refusal leaves in the store what was gathered of the frame, which
+ * is of use in one case: after LINEBOX_WRONG_CHECK on the expansion link store[0] is the id and store[3] the address as they
+ * arrived, for a reply of type LINEBOX_EXPANSION_CHECK_ERROR.
  *
  * A frame is read as exactly the message that the writer makes that frame of, and nothing else is read as a message.
  */
@@ -119,7 +122,8 @@ uint64_t linebox_mdu_read(const uint8_t *frame, size_t frame_len, uint8_t *store
 uint64_t linebox_dle_read(const uint8_t *frame, size_t frame_len, uint8_t *store, size_t store_len);
 uint64_t linebox_expansion_read(const uint8_t *frame, size_t frame_len, uint8_t *store, size_t store_len);
 
-/* ---- The parts of a read's answer. All but linebox_refusal are for an answer whose refusal is 0. */
+/* ---- The parts of a read's answer. All but linebox_refusal are for an answer whose refusal is 0, and those with the name
+ * of a link only for an answer of that link's read. The data itself is in the store, at LINEBOX_.._DATA. */
 
 /* the number of the refusal, or 0 */
 static inline unsigned linebox_refusal(uint64_t r) { return (unsigned)(r & 0xFF); }
@@ -127,12 +131,13 @@ static inline unsigned linebox_refusal(uint64_t r) { return (unsigned)(r & 0xFF)
 /* the length of the data */
 static inline size_t linebox_length(uint64_t r) { return (size_t)(r >> 8 & 0xFFF); }
 
-/* the two bits of the kind */
+/* the two bits of the kind; the accessors of PCS and DLE below say what they mean */
 static inline unsigned linebox_kind(uint64_t r) { return (unsigned)(r >> 20 & 3); }
 
-/* field number i, 0 to 4 */
+/* field number i, 0 to 4: a higher i is not allowed */
 static inline uint8_t linebox_field(uint64_t r, unsigned i) { return (uint8_t)(r >> (24 + 8 * i) & 0xFF); }
 
+/* PCS: the kind, one of LINEBOX_PCS_.., and the five fields as linebox_pcs_write takes them */
 static inline unsigned linebox_pcs_kind(uint64_t r) { return linebox_kind(r); }
 static inline uint8_t linebox_pcs_receiver(uint64_t r) { return linebox_field(r, 0); }
 static inline uint8_t linebox_pcs_sender(uint64_t r) { return linebox_field(r, 1); }
@@ -140,13 +145,16 @@ static inline uint8_t linebox_pcs_number(uint64_t r) { return linebox_field(r, 2
 static inline uint8_t linebox_pcs_sender_port(uint64_t r) { return linebox_field(r, 3); }
 static inline uint8_t linebox_pcs_receiver_port(uint64_t r) { return linebox_field(r, 4); }
 
+/* MDU: the address; the type byte is the first of the body, in the store */
 static inline uint8_t linebox_mdu_address(uint64_t r) { return linebox_field(r, 0); }
 
+/* DLE: whether it is an error message, which has no data; sequence and node; the error byte, 0 for a message with data */
 static inline int linebox_dle_is_error(uint64_t r) { return linebox_kind(r) == 1; }
 static inline uint8_t linebox_dle_sequence(uint64_t r) { return linebox_field(r, 0); }
 static inline uint8_t linebox_dle_node(uint64_t r) { return linebox_field(r, 1); }
 static inline uint8_t linebox_dle_error(uint64_t r) { return linebox_field(r, 2); }
 
+/* expansion: the four fields as linebox_expansion_write takes them, the type one of LINEBOX_EXPANSION_.. */
 static inline uint8_t linebox_expansion_id(uint64_t r) { return linebox_field(r, 0); }
 static inline uint8_t linebox_expansion_type(uint64_t r) { return linebox_field(r, 1); }
 static inline uint8_t linebox_expansion_repeat(uint64_t r) { return linebox_field(r, 2); }
