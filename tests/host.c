@@ -30,11 +30,11 @@ static void fresh(void) {
     memset(store, MARK, sizeof store);
 }
 
-static void pcs(void) {
-    static const uint8_t acknowledgement[] = {253, 250, 101, 6, 2, 128, 128, 1, 1, 105, 254};
-    uint8_t bad[sizeof acknowledgement];
+/* the acknowledgement frame of document 000 */
+static const uint8_t acknowledgement[] = {253, 250, 101, 6, 2, 128, 128, 1, 1, 105, 254};
+
+static void pcs_reads_back(void) {
     fresh();
-    /* the acknowledgement frame of document 000 */
     int32_t n = linebox_pcs_write(250, 101, LINEBOX_PCS_POSITIVE, 2, 1, 1, NULL, 0, out, sizeof out);
     CHECK(n == (int32_t)sizeof acknowledgement && !memcmp(out, acknowledgement, sizeof acknowledgement));
     CHECK(kept(out, sizeof acknowledgement, sizeof out));
@@ -51,8 +51,10 @@ static void pcs(void) {
     CHECK(linebox_pcs_receiver(r) == 255 && linebox_pcs_sender(r) == 2 && linebox_pcs_number(r) == 3);
     CHECK(linebox_pcs_sender_port(r) == 4 && linebox_pcs_receiver_port(r) == 5);
     CHECK(!memcmp(store + LINEBOX_PCS_DATA, data, 1024));
+}
 
-    /* may not be sent, then does not fit; nothing is written */
+/* may not be sent, then does not fit; nothing is written */
+static void pcs_not_written(void) {
     fresh();
     CHECK(linebox_pcs_write(0, 2, 0, 3, 4, 5, data, 1, out, sizeof out) == -LINEBOX_UNSENDABLE);
     CHECK(linebox_pcs_write(251, 2, 0, 3, 4, 5, data, 1, out, sizeof out) == -LINEBOX_UNSENDABLE);
@@ -67,8 +69,11 @@ static void pcs(void) {
     CHECK(linebox_pcs_write(1, 2, 0, 3, 4, 5, NULL, 0, NULL, 0) == -LINEBOX_OUTPUT_SHORT);
     CHECK(kept(out, 0, sizeof out));
     CHECK(linebox_pcs_write(1, 2, 0, 3, 4, 5, data, 1, out, 13) == 13 && kept(out, 13, sizeof out));
+}
 
-    /* refused frames */
+static void pcs_refused(void) {
+    uint8_t bad[sizeof acknowledgement];
+    fresh();
     CHECK(linebox_pcs_read(acknowledgement, 11, store, LINEBOX_PCS_STORE - 1) == LINEBOX_STORE_SHORT);
     CHECK(linebox_pcs_read(acknowledgement, 11, NULL, 0) == LINEBOX_STORE_SHORT);
     CHECK(linebox_pcs_read(acknowledgement, 10, store, sizeof store) == LINEBOX_TOO_SHORT);
@@ -92,22 +97,23 @@ static void pcs(void) {
     CHECK(linebox_pcs_read(longer, sizeof longer, store, sizeof store) == LINEBOX_TOO_LONG);
 }
 
-static void mdu(void) {
-    static const uint8_t frame[] = {0xE3, 0x01, 0x00, 0x01, 0x0D, 0xF2, 0x31, 0xD4, 0xC1};
-    static const uint8_t body[] = {0x31};
-    uint8_t bad[12];
+static const uint8_t mdu_frame[] = {0xE3, 0x01, 0x00, 0x01, 0x0D, 0xF2, 0x31, 0xD4, 0xC1}, body[] = {0x31};
+
+static void mdu_reads_back(void) {
     fresh();
-    CHECK(linebox_mdu_write(0x0D, body, 1, out, sizeof out) == 9 && !memcmp(out, frame, 9) && kept(out, 9, sizeof out));
-    uint64_t r = linebox_mdu_read(frame, 9, store, LINEBOX_MDU_STORE);
+    CHECK(linebox_mdu_write(0x0D, body, 1, out, sizeof out) == 9 && !memcmp(out, mdu_frame, 9) && kept(out, 9, sizeof out));
+    uint64_t r = linebox_mdu_read(mdu_frame, 9, store, LINEBOX_MDU_STORE);
     CHECK(r == ((uint64_t)0x0D << 24 | 1 << 8));
     CHECK(linebox_mdu_address(r) == 0x0D && linebox_length(r) == 1 && store[LINEBOX_MDU_DATA] == 0x31);
-    CHECK(!memcmp(store, frame, 9) && kept(store, 9, sizeof store));
+    CHECK(!memcmp(store, mdu_frame, 9) && kept(store, 9, sizeof store));
 
     CHECK(linebox_mdu_write(255, data, 1025, out, 1033) == 1033);
     r = linebox_mdu_read(out, 1033, store, LINEBOX_MDU_STORE);
     CHECK(linebox_refusal(r) == 0 && linebox_length(r) == 1025 && linebox_mdu_address(r) == 255);
     CHECK(!memcmp(store + LINEBOX_MDU_DATA, data, 1025));
+}
 
+static void mdu_not_written(void) {
     fresh();
     CHECK(linebox_mdu_write(0, body, 1, out, sizeof out) == -LINEBOX_UNSENDABLE);
     CHECK(linebox_mdu_write(1, NULL, 0, out, sizeof out) == -LINEBOX_UNSENDABLE);
@@ -115,16 +121,20 @@ static void mdu(void) {
     CHECK(linebox_mdu_write(1, body, 1, out, 8) == -LINEBOX_OUTPUT_SHORT);
     CHECK(linebox_mdu_write(1, body, 1, NULL, 0) == -LINEBOX_OUTPUT_SHORT);
     CHECK(kept(out, 0, sizeof out));
+}
 
-    CHECK(linebox_mdu_read(frame, 9, store, LINEBOX_MDU_STORE - 1) == LINEBOX_STORE_SHORT && kept(store, 0, sizeof store));
-    CHECK(linebox_mdu_read(frame, 8, store, sizeof store) == LINEBOX_TOO_SHORT);
+static void mdu_refused(void) {
+    uint8_t bad[12];
+    fresh();
+    CHECK(linebox_mdu_read(mdu_frame, 9, store, LINEBOX_MDU_STORE - 1) == LINEBOX_STORE_SHORT && kept(store, 0, sizeof store));
+    CHECK(linebox_mdu_read(mdu_frame, 8, store, sizeof store) == LINEBOX_TOO_SHORT);
     /* noise before the frame, a byte behind it */
-    memcpy(bad + 1, frame, 9);
+    memcpy(bad + 1, mdu_frame, 9);
     bad[0] = 0;
     bad[10] = 0;
     CHECK(linebox_mdu_read(bad, 10, store, sizeof store) == LINEBOX_TOO_SHORT);
     CHECK(linebox_mdu_read(bad + 1, 10, store, sizeof store) == LINEBOX_TOO_SHORT);
-    memcpy(bad, frame, 9);
+    memcpy(bad, mdu_frame, 9);
     bad[8] ^= 1;
     CHECK(linebox_mdu_read(bad, 9, store, sizeof store) == LINEBOX_WRONG_CHECK);
     bad[1] = 2;
@@ -133,12 +143,12 @@ static void mdu(void) {
     CHECK(linebox_mdu_read(length, sizeof length, store, sizeof store) == LINEBOX_WRONG_LENGTH);
 }
 
-static void dle(void) {
-    static const uint8_t frame[] = {0x10, 0x02, 0x10, 0x10, 0x03, 0x02, 0x64, 0x96, 0x10, 0x03};
-    static const uint8_t two[] = {0x64, 0x96};
+static const uint8_t dle_frame[] = {0x10, 0x02, 0x10, 0x10, 0x03, 0x02, 0x64, 0x96, 0x10, 0x03}, two[] = {0x64, 0x96};
+
+static void dle_reads_back(void) {
     fresh();
-    CHECK(linebox_dle_write(0x10, 3, two, 2, out, sizeof out) == 10 && !memcmp(out, frame, 10) && kept(out, 10, sizeof out));
-    uint64_t r = linebox_dle_read(frame, 10, store, LINEBOX_DLE_STORE);
+    CHECK(linebox_dle_write(0x10, 3, two, 2, out, sizeof out) == 10 && !memcmp(out, dle_frame, 10) && kept(out, 10, sizeof out));
+    uint64_t r = linebox_dle_read(dle_frame, 10, store, LINEBOX_DLE_STORE);
     CHECK(r == ((uint64_t)3 << 32 | (uint64_t)0x10 << 24 | 2 << 8));
     CHECK(linebox_dle_sequence(r) == 0x10 && linebox_dle_node(r) == 3 && !linebox_dle_is_error(r) && linebox_length(r) == 2);
     CHECK(!memcmp(store + LINEBOX_DLE_DATA, two, 2));
@@ -153,7 +163,9 @@ static void dle(void) {
     CHECK(linebox_dle_write(0x10, 0x10, tens, 255, out, 519) == 519);
     r = linebox_dle_read(out, 519, store, LINEBOX_DLE_STORE);
     CHECK(linebox_refusal(r) == 0 && linebox_length(r) == 255 && !memcmp(store + LINEBOX_DLE_DATA, tens, 255));
+}
 
+static void dle_not_written(void) {
     fresh();
     CHECK(linebox_dle_write(1, 2, NULL, 0, out, sizeof out) == -LINEBOX_UNSENDABLE);
     CHECK(linebox_dle_write(1, 2, data, 256, out, sizeof out) == -LINEBOX_UNSENDABLE);
@@ -161,10 +173,13 @@ static void dle(void) {
     CHECK(linebox_dle_write(1, 2, two, 2, NULL, 0) == -LINEBOX_OUTPUT_SHORT);
     CHECK(linebox_dle_write_error(1, 2, 3, out, 7) == -LINEBOX_OUTPUT_SHORT);
     CHECK(kept(out, 0, sizeof out));
+}
 
-    CHECK(linebox_dle_read(frame, 10, NULL, 0) == LINEBOX_STORE_SHORT);
-    CHECK(linebox_dle_read(frame, 10, store, LINEBOX_DLE_STORE - 1) == LINEBOX_STORE_SHORT);
-    CHECK(linebox_dle_read(frame, 9, store, sizeof store) == LINEBOX_TOO_SHORT);
+static void dle_refused(void) {
+    fresh();
+    CHECK(linebox_dle_read(dle_frame, 10, NULL, 0) == LINEBOX_STORE_SHORT);
+    CHECK(linebox_dle_read(dle_frame, 10, store, LINEBOX_DLE_STORE - 1) == LINEBOX_STORE_SHORT);
+    CHECK(linebox_dle_read(dle_frame, 9, store, sizeof store) == LINEBOX_TOO_SHORT);
     CHECK(linebox_dle_read(NULL, 0, store, sizeof store) == LINEBOX_TOO_SHORT);
     static const uint8_t start[] = {0x10, 0x02, 1, 0x10, 0x02}, code[] = {0x10, 0x02, 1, 0x10, 0x04};
     CHECK(linebox_dle_read(start, sizeof start, store, sizeof store) == LINEBOX_NEW_START);
@@ -175,7 +190,7 @@ static void dle(void) {
     CHECK(linebox_dle_read(longer, sizeof longer, store, sizeof store) == LINEBOX_TOO_LONG);
 }
 
-static void expansion(void) {
+static void expansion_reads_back(void) {
     uint8_t marks[1024];
     memset(marks, 0xFF, sizeof marks);
     fresh();
@@ -191,14 +206,9 @@ static void expansion(void) {
     CHECK(n >= 10);
     r = linebox_expansion_read(out, (size_t)n, store, LINEBOX_EXPANSION_STORE);
     CHECK(r == ((uint64_t)2 << 48 | (uint64_t)0 << 40 | (uint64_t)2 << 32 | (uint64_t)1 << 24));
+}
 
-    out[1] ^= 4;
-    CHECK(linebox_expansion_read(out, (size_t)n, store, sizeof store) == LINEBOX_WRONG_CHECK);
-    out[1] ^= 4;
-    CHECK(linebox_expansion_read(out, (size_t)n, store, LINEBOX_EXPANSION_STORE - 1) == LINEBOX_STORE_SHORT);
-    CHECK(linebox_expansion_read(out, (size_t)n - 1, store, sizeof store) == LINEBOX_TOO_SHORT);
-    CHECK(linebox_expansion_read(out, (size_t)n + 1, store, sizeof store) == LINEBOX_TOO_SHORT);
-
+static void expansion_not_written(void) {
     fresh();
     CHECK(linebox_expansion_write(1, 3, 0, 2, NULL, 0, out, sizeof out) == -LINEBOX_UNSENDABLE);
     CHECK(linebox_expansion_write(1, 0, 4, 2, NULL, 0, out, sizeof out) == -LINEBOX_UNSENDABLE);
@@ -206,6 +216,18 @@ static void expansion(void) {
     CHECK(linebox_expansion_write(1, 0, 0, 2, data, 1025, out, sizeof out) == -LINEBOX_UNSENDABLE);
     CHECK(linebox_expansion_write(1, 0, 0, 2, data, 1, NULL, 0) == -LINEBOX_OUTPUT_SHORT);
     CHECK(kept(out, 0, sizeof out));
+}
+
+static void expansion_refused(void) {
+    fresh();
+    int32_t n = linebox_expansion_write(1, LINEBOX_EXPANSION_REQUEST, 0, 2, NULL, 0, out, sizeof out);
+    out[1] ^= 4;
+    CHECK(linebox_expansion_read(out, (size_t)n, store, sizeof store) == LINEBOX_WRONG_CHECK);
+    CHECK(store[0] == (1 ^ 4) && store[3] == 2); /* id and address as they arrived */
+    out[1] ^= 4;
+    CHECK(linebox_expansion_read(out, (size_t)n, store, LINEBOX_EXPANSION_STORE - 1) == LINEBOX_STORE_SHORT);
+    CHECK(linebox_expansion_read(out, (size_t)n - 1, store, sizeof store) == LINEBOX_TOO_SHORT);
+    CHECK(linebox_expansion_read(out, (size_t)n + 1, store, sizeof store) == LINEBOX_TOO_SHORT);
     static const uint8_t shortest[] = {0xFD, 0xFE}, start[] = {0xFD, 1, 0xFD}, code[] = {0xFD, 0xFF, 3};
     CHECK(linebox_expansion_read(shortest, 2, store, sizeof store) == LINEBOX_TOO_SHORT);
     CHECK(linebox_expansion_read(start, 3, store, sizeof store) == LINEBOX_NEW_START);
@@ -215,10 +237,18 @@ static void expansion(void) {
 
 int main(void) {
     for (size_t i = 0; i < sizeof data; i++) data[i] = (uint8_t)(7 * i + i / 256);
-    pcs();
-    mdu();
-    dle();
-    expansion();
+    pcs_reads_back();
+    pcs_not_written();
+    pcs_refused();
+    mdu_reads_back();
+    mdu_not_written();
+    mdu_refused();
+    dle_reads_back();
+    dle_not_written();
+    dle_refused();
+    expansion_reads_back();
+    expansion_not_written();
+    expansion_refused();
     if (failures) {
         printf("%d failed\n", failures);
         return 1;

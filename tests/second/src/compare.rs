@@ -218,48 +218,60 @@ fn field(random: &mut Xorshift, least: u8, most: u8) -> u8 {
     }
 }
 
-fn writer_call(random: &mut Xorshift, function: usize) -> Call {
-    let mut length = gen::data_length(random);
-    let numbers: Vec<u8>;
-    let mut input = Vec::new();
-    let exact;
-    match function {
-        0 => {
-            let kind = field(random, 0, 3);
-            if kind >= 2 && !random.once_in(6) {
-                length = 0;
-            }
-            let receiver = if random.once_in(6) { 255 } else { field(random, 1, 250) };
-            numbers = vec![receiver, field(random, 1, 250), kind, field(random, 1, 250), field(random, 1, 250), field(random, 1, 250)];
-            input = gen::contents(random, length);
-            let n = &numbers;
-            exact = pcs::frame(n[0], n[1], n[2], n[3], n[4], n[5], &input).map(|frame| frame.len());
-        }
-        1 => {
-            numbers = vec![field(random, 0, 255)];
-            input = gen::contents(random, length);
-            exact = mdu::frame(numbers[0], &input).map(|frame| frame.len());
-        }
-        2 => {
-            numbers = vec![gen::edge(random), gen::edge(random)];
-            input = gen::contents(random, length);
-            exact = dle::frame(numbers[0], numbers[1], &input).map(|frame| frame.len());
-        }
-        3 => {
-            numbers = vec![gen::edge(random), gen::edge(random), gen::edge(random)];
-            exact = Ok(dle::error_frame(numbers[0], numbers[1], numbers[2]).len());
-        }
-        _ => {
-            let kind = field(random, 0, 2);
-            if kind >= 1 && !random.once_in(6) {
-                length = 0;
-            }
-            numbers = vec![gen::edge(random), kind, field(random, 0, 3), gen::edge(random)];
-            input = gen::contents(random, length);
-            let n = &numbers;
-            exact = expansion::frame(n[0], n[1], n[2], n[3], &input).map(|frame| frame.len());
-        }
+/// What a writer is called with, and how long its frame is if it makes one.
+type Written = (Vec<u8>, Vec<u8>, Result<usize, u8>);
+
+fn pcs_written(random: &mut Xorshift, mut length: usize) -> Written {
+    let kind = field(random, 0, 3);
+    if kind >= 2 && !random.once_in(6) {
+        length = 0;
     }
+    let receiver = if random.once_in(6) { 255 } else { field(random, 1, 250) };
+    let n = [receiver, field(random, 1, 250), kind, field(random, 1, 250), field(random, 1, 250), field(random, 1, 250)];
+    let data = gen::contents(random, length);
+    let frame = pcs::frame(n[0], n[1], n[2], n[3], n[4], n[5], &data);
+    (n.to_vec(), data, frame.map(|frame| frame.len()))
+}
+
+fn mdu_written(random: &mut Xorshift, length: usize) -> Written {
+    let address = field(random, 0, 255);
+    let body = gen::contents(random, length);
+    let frame = mdu::frame(address, &body);
+    (vec![address], body, frame.map(|frame| frame.len()))
+}
+
+fn dle_written(random: &mut Xorshift, length: usize) -> Written {
+    let n = [gen::edge(random), gen::edge(random)];
+    let data = gen::contents(random, length);
+    let frame = dle::frame(n[0], n[1], &data);
+    (n.to_vec(), data, frame.map(|frame| frame.len()))
+}
+
+fn dle_error_written(random: &mut Xorshift) -> Written {
+    let n = [gen::edge(random), gen::edge(random), gen::edge(random)];
+    (n.to_vec(), Vec::new(), Ok(dle::error_frame(n[0], n[1], n[2]).len()))
+}
+
+fn expansion_written(random: &mut Xorshift, mut length: usize) -> Written {
+    let kind = field(random, 0, 2);
+    if kind >= 1 && !random.once_in(6) {
+        length = 0;
+    }
+    let n = [gen::edge(random), kind, field(random, 0, 3), gen::edge(random)];
+    let data = gen::contents(random, length);
+    let frame = expansion::frame(n[0], n[1], n[2], n[3], &data);
+    (n.to_vec(), data, frame.map(|frame| frame.len()))
+}
+
+fn writer_call(random: &mut Xorshift, function: usize) -> Call {
+    let length = gen::data_length(random);
+    let (numbers, input, exact) = match function {
+        0 => pcs_written(random, length),
+        1 => mdu_written(random, length),
+        2 => dle_written(random, length),
+        3 => dle_error_written(random),
+        _ => expansion_written(random, length),
+    };
     Call { function, numbers, input, lent: room(random, exact) }
 }
 
@@ -300,6 +312,41 @@ fn inside(memory: &mut [u8]) -> &mut [u8] {
 /// What a comparison found: counts of each answer, by function and number.
 pub struct Counts([[u64; 19]; 9]);
 
+/// What a call left: the answer, the memory and the input, each with its canary.
+#[derive(PartialEq)]
+struct Left {
+    answer: Answer,
+    memory: Vec<u8>,
+    input: Vec<u8>,
+}
+
+fn left(call: &Call, host: &dyn Host, input: &[u8], canary: &[u8]) -> Left {
+    let (mut memory, mut input) = (canary.to_vec(), input.to_vec());
+    let answer = call.on(host, inside(&mut input), inside(&mut memory));
+    Left { answer, memory, input }
+}
+
+/// The text of a difference.
+fn difference(call: &Call, canary: &[u8], got: &Left, expected: &Left) -> String {
+    let mut text = format!("{}\n", FUNCTIONS[call.function].name);
+    text += &format!("numbers  {:?}\n", call.numbers);
+    text += &format!("input    {} bytes {}\n", call.input.len(), hex(&call.input));
+    text += &format!("lent     {} bytes\n", call.lent);
+    text += &format!("answer   {:?} (refusal {})\n", got.answer, got.answer.refusal());
+    text += &format!("expected {:?} (refusal {})\n", expected.answer, expected.answer.refusal());
+    if let Some(place) = got.memory.iter().zip(&expected.memory).position(|(a, b)| a != b) {
+        let lent = GUARD..canary.len() - GUARD;
+        text += &format!("memory differs first at place {} of the lent bytes\n", place as i64 - GUARD as i64);
+        text += &format!("before   {}\n", hex(&canary[lent.clone()]));
+        text += &format!("memory   {}\n", hex(&got.memory[lent.clone()]));
+        text += &format!("expected {}\n", hex(&expected.memory[lent]));
+    }
+    if got.input != expected.input {
+        text += "the input bytes were changed\n";
+    }
+    text
+}
+
 /// Compares `count` generated calls; the text of the first difference otherwise.
 pub fn compare(host: &dyn Host, seed: u64, count: u64) -> Result<Counts, String> {
     let mut random = Xorshift::new(seed);
@@ -311,39 +358,16 @@ pub fn compare(host: &dyn Host, seed: u64, count: u64) -> Result<Counts, String>
             more => (more - 4) as usize,
         };
         let call = if function < 5 { writer_call(&mut random, function) } else { read_call(&mut random, function) };
-
         let mut input = guarded(&mut random, call.input.len());
         inside(&mut input).copy_from_slice(&call.input);
         let canary = guarded(&mut random, call.lent);
-
-        let mut expected_memory = canary.clone();
-        let expected = call.on(&Own, &call.input, inside(&mut expected_memory));
-
-        let mut memory = canary.clone();
-        let mut given_input = input.clone();
-        let answer = call.on(host, inside(&mut given_input), inside(&mut memory));
-
-        if answer != expected || memory != expected_memory || given_input != input {
-            let differing = memory.iter().zip(&expected_memory).position(|(a, b)| a != b);
-            let mut text = format!("difference at call {number} (seed {seed}): {}\n", FUNCTIONS[function].name);
-            text += &format!("numbers  {:?}\n", call.numbers);
-            text += &format!("input    {} bytes {}\n", call.input.len(), hex(&call.input));
-            text += &format!("lent     {} bytes\n", call.lent);
-            text += &format!("answer   {answer:?} (refusal {})\n", answer.refusal());
-            text += &format!("expected {expected:?} (refusal {})\n", expected.refusal());
-            if let Some(place) = differing {
-                let end = memory.len() - GUARD;
-                text += &format!("memory differs first at place {} of the lent bytes\n", place as i64 - GUARD as i64);
-                text += &format!("before   {}\n", hex(&canary[GUARD..end]));
-                text += &format!("memory   {}\n", hex(&memory[GUARD..end]));
-                text += &format!("expected {}\n", hex(&expected_memory[GUARD..end]));
-            }
-            if given_input != input {
-                text += "the input bytes were changed\n";
-            }
-            return Err(text);
+        let expected = left(&call, &Own, &input, &canary);
+        let got = left(&call, host, &input, &canary);
+        if got != expected {
+            let text = difference(&call, &canary, &got, &expected);
+            return Err(format!("difference at call {number} (seed {seed}): {text}"));
         }
-        counts.0[function][expected.refusal() as usize] += 1;
+        counts.0[function][expected.answer.refusal() as usize] += 1;
     }
     Ok(counts)
 }

@@ -85,6 +85,39 @@ fn judge(gathered: &[u8]) -> Result<Message, u8> {
     Ok(Message { sequence, node, error: None, length: stated })
 }
 
+/// A byte while hunting, with a 10 waiting or not.
+fn hunting(state: &mut State, byte: u8) {
+    let waiting = state.mode == HALF_START;
+    if waiting && byte == START {
+        state.mode = OPEN;
+        state.open = 2;
+    } else if !waiting && byte == MARK {
+        state.mode = HALF_START;
+        state.open = 1;
+    } else {
+        // Without a 02 both bytes are noise, even 10 10.
+        state.mode = HUNTING;
+        state.open = 0;
+        state.noise = state.noise.wrapping_add(if waiting { 2 } else { 1 });
+    }
+}
+
+/// What follows the 10 inside an open frame.
+fn after_mark(state: &mut State, store: &mut [u8], byte: u8) -> Event<Message> {
+    state.open = state.open.wrapping_add(1);
+    match byte {
+        START => {
+            state.mode = OPEN;
+            state.count = 0;
+            state.open = 2;
+            Event::Refused(4)
+        }
+        END => stream::end(state, judge(&store[..state.count as usize])),
+        MARK => stream::gather(state, store, MARK, OPEN, Dle::SIZE),
+        _ => stream::end(state, Err(7)),
+    }
+}
+
 impl Link for Dle {
     type Message = Message;
     const SIZE: usize = 258;
@@ -96,26 +129,8 @@ impl Link for Dle {
 
     fn step(state: &mut State, store: &mut [u8], byte: u8) -> Event<Message> {
         match state.mode {
-            HUNTING => {
-                if byte == MARK {
-                    state.mode = HALF_START;
-                    state.open = 1;
-                } else {
-                    state.open = 0;
-                    state.noise = state.noise.wrapping_add(1);
-                }
-                Event::Nothing
-            }
-            HALF_START => {
-                if byte == START {
-                    state.mode = OPEN;
-                    state.open = 2;
-                } else {
-                    // Without a 02 both bytes are noise, even 10 10.
-                    state.mode = HUNTING;
-                    state.open = 0;
-                    state.noise = state.noise.wrapping_add(2);
-                }
+            HUNTING | HALF_START => {
+                hunting(state, byte);
                 Event::Nothing
             }
             OPEN => {
@@ -126,31 +141,7 @@ impl Link for Dle {
                 }
                 stream::gather(state, store, byte, OPEN, Self::SIZE)
             }
-            _ => {
-                // HALF: what follows the 10 inside.
-                state.open = state.open.wrapping_add(1);
-                match byte {
-                    START => {
-                        state.mode = OPEN;
-                        state.count = 0;
-                        state.open = 2;
-                        Event::Refused(4)
-                    }
-                    END => {
-                        let verdict = judge(&store[..state.count as usize]);
-                        stream::hunt(state);
-                        match verdict {
-                            Ok(message) => Event::Message(message),
-                            Err(number) => Event::Refused(number),
-                        }
-                    }
-                    MARK => stream::gather(state, store, MARK, OPEN, Self::SIZE),
-                    _ => {
-                        stream::hunt(state);
-                        Event::Refused(7)
-                    }
-                }
-            }
+            _ => after_mark(state, store, byte),
         }
     }
 

@@ -91,14 +91,7 @@ impl Link for Expansion {
             OPEN => {
                 state.open = state.open.wrapping_add(1);
                 match byte {
-                    END => {
-                        let verdict = judge(&store[..state.count as usize]);
-                        stream::hunt(state);
-                        match verdict {
-                            Ok(message) => Event::Message(message),
-                            Err(number) => Event::Refused(number),
-                        }
-                    }
+                    END => stream::end(state, judge(&store[..state.count as usize])),
                     HIDE => {
                         state.mode = HALF;
                         Event::Nothing
@@ -110,10 +103,7 @@ impl Link for Expansion {
                 state.open = state.open.wrapping_add(1);
                 match escape::unhide(byte) {
                     Some(hidden) => stream::gather(state, store, hidden, OPEN, Self::SIZE),
-                    None => {
-                        stream::hunt(state);
-                        Event::Refused(7)
-                    }
+                    None => stream::end(state, Err(7)),
                 }
             }
             _ => {

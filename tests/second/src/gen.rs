@@ -396,6 +396,21 @@ fn endless(random: &mut Xorshift, wire: Wire) -> Vec<u8> {
     bytes
 }
 
+/// A frame with noise before it, behind it or both.
+fn in_noise(random: &mut Xorshift, wire: Wire) -> Vec<u8> {
+    let frame = valid(random, wire);
+    let mut bytes = Vec::new();
+    let where_noisy = random.below(3);
+    if where_noisy != 1 {
+        bytes.extend(noise(random));
+    }
+    bytes.extend(frame);
+    if where_noisy != 0 {
+        bytes.extend(noise(random));
+    }
+    bytes
+}
+
 /// One run of bytes for a link: valid, damaged, resummed, cut, noisy, long, loose.
 pub fn run(random: &mut Xorshift, wire: Wire) -> Vec<u8> {
     match random.below(21) {
@@ -419,19 +434,7 @@ pub fn run(random: &mut Xorshift, wire: Wire) -> Vec<u8> {
             frame.truncate(kept);
             frame
         }
-        14 | 15 => {
-            let frame = valid(random, wire);
-            let mut bytes = Vec::new();
-            let where_noisy = random.below(3);
-            if where_noisy != 1 {
-                bytes.extend(noise(random));
-            }
-            bytes.extend(frame);
-            if where_noisy != 0 {
-                bytes.extend(noise(random));
-            }
-            bytes
-        }
+        14 | 15 => in_noise(random, wire),
         16 => {
             let mut bytes = valid(random, wire);
             bytes.extend(valid(random, wire));

@@ -62,6 +62,28 @@ fn judge_header(header: &[u8]) -> Result<u32, u8> {
     Ok(length)
 }
 
+/// The test at the last byte.
+fn judge_body(store: &[u8], length: usize) -> Result<Message, u8> {
+    let check = store[6 + length] as u16 * 256 + store[7 + length] as u16;
+    if crc::crc16(&store[6..6 + length]) != check {
+        return Err(8);
+    }
+    Ok(Message { address: store[4], length })
+}
+
+fn hunting(state: &mut State, store: &mut [u8], byte: u8) {
+    state.length = 0;
+    if byte == START {
+        store[0] = byte;
+        state.mode = OPEN;
+        state.count = 1;
+        state.open = 1;
+    } else {
+        state.open = 0;
+        state.noise = state.noise.wrapping_add(1);
+    }
+}
+
 impl Link for Mdu {
     type Message = Message;
     const SIZE: usize = 1033;
@@ -81,16 +103,7 @@ impl Link for Mdu {
 
     fn step(state: &mut State, store: &mut [u8], byte: u8) -> Event<Message> {
         if state.mode == HUNTING {
-            state.length = 0;
-            if byte == START {
-                store[0] = byte;
-                state.mode = OPEN;
-                state.count = 1;
-                state.open = 1;
-            } else {
-                state.open = 0;
-                state.noise = state.noise.wrapping_add(1);
-            }
+            hunting(state, store, byte);
             return Event::Nothing;
         }
         // Every byte of an open frame is gathered, E3 too.
@@ -107,23 +120,13 @@ impl Link for Mdu {
                     state.length = length;
                     Event::Nothing
                 }
-                Err(number) => {
-                    stream::hunt(state);
-                    Event::Refused(number)
-                }
+                Err(number) => stream::end(state, Err(number)),
             };
         }
         if state.count < state.length + 8 {
             return Event::Nothing;
         }
-        // The last byte.
-        let length = state.length as usize;
-        stream::hunt(state);
-        let check = store[6 + length] as u16 * 256 + store[7 + length] as u16;
-        if crc::crc16(&store[6..6 + length]) != check {
-            return Event::Refused(8);
-        }
-        Event::Message(Message { address: store[4], length })
+        stream::end(state, judge_body(store, state.length as usize))
     }
 
     fn length(message: &Message) -> usize {

@@ -100,6 +100,15 @@ pub fn hunt(state: &mut State) {
     state.open = 0;
 }
 
+/// The end of a frame: back to hunting, with what the tests at the end say.
+pub fn end<M>(state: &mut State, verdict: Result<M, u8>) -> Event<M> {
+    hunt(state);
+    match verdict {
+        Ok(message) => Event::Message(message),
+        Err(number) => Event::Refused(number),
+    }
+}
+
 /// One byte after unhiding, in a frame that stays open; one more than the link's size is not stored.
 pub fn gather<M>(state: &mut State, store: &mut [u8], byte: u8, open: u32, size: usize) -> Event<M> {
     if state.count as usize == size {

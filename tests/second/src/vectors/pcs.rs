@@ -1,0 +1,188 @@
+//! PCS: document 000's messages, group lengths, the edges, the end's tests.
+
+use super::link::Section;
+use super::text::{given, given_run, given_same, Lines};
+use crate::pcs::{self, Pcs};
+use crate::stream::{Link, State};
+use crate::sum;
+
+/// The record that document 000's time clock sends.
+const RECORD_DATA: &[u8] = b"AELDL\0\0\0\x01\x60\x10\x67\x80\x0F\xAA\xD7\x51\xD1\x80\0\0";
+
+/// Document 000's four messages: numbers and data.
+const MESSAGES: [([u8; 6], &[u8]); 4] = [
+    ([2, 250, 0, 4, 1, 1], b"CELDL\0\0\0\x01"),
+    ([250, 2, 0, 4, 1, 1], RECORD_DATA),
+    ([101, 250, 1, 2, 1, 1], b"CLCSH12345"),
+    ([250, 101, 2, 2, 1, 1], b""),
+];
+
+/// One field out of its range each.
+const UNSENDABLE: [[u8; 6]; 13] = [
+    [0, 1, 0, 1, 1, 1],
+    [251, 1, 0, 1, 1, 1],
+    [254, 1, 0, 1, 1, 1],
+    [1, 0, 0, 1, 1, 1],
+    [1, 251, 0, 1, 1, 1],
+    [1, 255, 0, 1, 1, 1],
+    [1, 1, 4, 1, 1, 1],
+    [1, 1, 0, 0, 1, 1],
+    [1, 1, 0, 251, 1, 1],
+    [1, 1, 0, 1, 0, 1],
+    [1, 1, 0, 1, 251, 1],
+    [1, 1, 0, 1, 1, 0],
+    [1, 1, 0, 1, 1, 251],
+];
+
+/// Whole frames for 6, 11 and 8.
+const FRAMES: [&[u8]; 5] = [
+    &[253, 254],
+    &[253, 1, 1, 12, 1, 128, 128, 1, 25, 254],
+    &[253, 1, 1, 12, 1, 128, 128, 1, 1, 0, 254],
+    &[253, 1, 1, 15, 1, 128, 128, 1, 1, 20, 254],
+    &[253, 0, 1, 4, 1, 128, 128, 1, 1, 0, 254],
+];
+
+/// Bodies for 9, 10 and 13, and good ones beside them; the sum is put behind each.
+const BODIES: [&[u8]; 28] = [
+    &[0, 1, 4, 1, 128, 128, 1, 1],
+    &[251, 1, 4, 1, 128, 128, 1, 1],
+    &[255, 250, 4, 250, 128, 128, 250, 250],
+    &[1, 255, 4, 1, 128, 128, 1, 1],
+    &[1, 1, 3, 1, 128, 128, 1, 1],
+    &[1, 1, 7, 1, 128, 128, 1, 1],
+    &[1, 1, 8, 1, 128, 128, 1, 1],
+    &[1, 1, 11, 1, 128, 128, 1, 1],
+    &[1, 1, 16, 1, 128, 128, 1, 1],
+    &[1, 1, 4, 0, 128, 128, 1, 1],
+    &[1, 1, 4, 1, 0, 128, 1, 1],
+    &[1, 1, 4, 1, 128, 0, 1, 1],
+    &[1, 1, 4, 1, 129, 128, 1, 1],
+    &[1, 1, 4, 1, 128, 128, 0, 1],
+    &[1, 1, 4, 1, 128, 128, 1, 251],
+    &[1, 1, 6, 1, 128, 2, 1, 1],
+    &[1, 1, 6, 1, 128, 128, 1, 1, 5, 128],
+    &[1, 1, 4, 1, 128, 1, 1, 1],
+    &[1, 1, 4, 1, 128, 2, 1, 1, 129],
+    &[1, 1, 4, 1, 1, 2, 1, 1, 5, 128],
+    &[1, 1, 4, 1, 128, 1, 1, 1, 5],
+    &[1, 1, 4, 1, 128, 9, 1, 1, 1, 2, 3, 4, 5, 6, 7, 8, 9],
+    &[1, 1, 4, 1, 128, 2, 1, 1, 129, 128],
+    &[1, 1, 4, 1, 128, 2, 1, 1, 0, 128],
+    &[1, 1, 4, 1, 128, 2, 1, 1, 5, 129],
+    &[1, 1, 4, 1, 128, 2, 1, 1, 5, 2],
+    &[1, 1, 4, 1, 128, 3, 1, 1, 5, 5, 4],
+    &[1, 1, 4, 1, 128, 3, 1, 1, 5, 5, 3],
+];
+
+fn frame(n: [u8; 6], data: &[u8]) -> Vec<u8> {
+    pcs::frame(n[0], n[1], n[2], n[3], n[4], n[5], data).unwrap_or_default()
+}
+
+/// What the sum of one of document 000's messages is taken over.
+pub fn summed(message: usize) -> Vec<u8> {
+    let (numbers, data) = MESSAGES[message];
+    let frame = frame(numbers, data);
+    frame[1..frame.len() - 2].to_vec()
+}
+
+/// These bytes between the marks, with the right sum behind them.
+fn closed(bytes: &[u8]) -> Vec<u8> {
+    [&[253], bytes, &[sum::pcs(bytes), 254]].concat()
+}
+
+fn documents(s: &mut Section) {
+    for (numbers, data) in MESSAGES {
+        let exact = frame(numbers, data).len();
+        s.write(&numbers, given(data), exact + 3);
+        s.read_back::<Pcs>();
+        s.write(&numbers, given(data), exact);
+        s.write(&numbers, given(data), exact - 1);
+        s.whole::<Pcs>();
+    }
+}
+
+fn lengths(s: &mut Section) {
+    // Every length of a last group, top bits set and not.
+    for length in 1..=8usize {
+        let data: Vec<u8> = (0..length).map(|k| if k % 2 == 0 { 0x80 + k as u8 } else { k as u8 }).collect();
+        s.write(&[255, 128, 1, 128, 250, 1], given(&data), 40);
+        s.read_back::<Pcs>();
+    }
+    // The length edge: 1,024 sent, 1,025 refused.
+    for length in [1023, 1024, 1025, 1026] {
+        s.write(&[1, 2, 0, 3, 4, 5], given_run(length), 1200);
+        if length == 1024 {
+            s.read_back::<Pcs>();
+        }
+    }
+}
+
+/// 3 for each field, before 2; kinds 2 and 3 with data and without.
+fn unsendable(s: &mut Section) {
+    for numbers in UNSENDABLE {
+        s.write(&numbers, given(b""), 20);
+        s.write(&numbers, given(b""), 0);
+    }
+    s.write(&[1, 1, 2, 1, 1, 1], given(&[7]), 20);
+    s.write(&[1, 1, 3, 1, 1, 1], given(&[7]), 20);
+    s.write(&[1, 1, 3, 1, 1, 1], given(b""), 20);
+    s.read_back::<Pcs>();
+}
+
+/// The end's tests, in their order.
+fn ends(s: &mut Section) {
+    s.each::<Pcs>(&FRAMES);
+    for bytes in BODIES {
+        s.each::<Pcs>(&[&closed(bytes)]);
+    }
+}
+
+/// 5 for the byte that is one too many; 4 in the middle.
+fn too_long(s: &mut Section) {
+    s.fresh(Pcs::SIZE);
+    s.receive::<Pcs>(&[253]);
+    s.receive_given::<Pcs>(given_same(1180));
+    s.receive::<Pcs>(&[11, 12]);
+    s.receive::<Pcs>(&[12, 253]);
+    s.receive::<Pcs>(&[9, 253, 254]);
+}
+
+fn states(s: &mut Section) {
+    s.odd::<Pcs>(&[
+        State { mode: 2, ..State::default() },
+        State { mode: 1, count: 1181, ..State::default() },
+        State { mode: 0, count: 1, ..State::default() },
+    ]);
+    s.short::<Pcs>();
+    s.noise_goes_round::<Pcs>();
+}
+
+fn cut(s: &mut Section) {
+    let mut stream = vec![254, 7, 253, 1, 253];
+    stream.extend(&frame([101, 250, 1, 2, 1, 1], b"CLCSH\xB1\xB2345")[1..]);
+    stream.extend([0, 253, 254, 253, 9]);
+    s.cut::<Pcs>(&stream);
+}
+
+fn parts(s: &mut Section) {
+    for (room, length) in [(1180, 1180), (1180, 1181), (1180, 0), (0, 0), (0, 1)] {
+        let message =
+            pcs::Message { receiver: 1, sender: 1, kind: 0, number: 1, sender_port: 1, receiver_port: 1, length };
+        s.part::<Pcs>(room, length, message);
+    }
+}
+
+pub fn section() -> (Lines, Lines) {
+    let writer = |n: &[u8], data: &[u8], out: &mut [u8]| pcs::write(n[0], n[1], n[2], n[3], n[4], n[5], data, out);
+    let mut s = Section::new("pcs", false, &writer);
+    documents(&mut s);
+    lengths(&mut s);
+    unsendable(&mut s);
+    ends(&mut s);
+    too_long(&mut s);
+    states(&mut s);
+    cut(&mut s);
+    parts(&mut s);
+    (s.lines, s.whole)
+}

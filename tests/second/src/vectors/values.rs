@@ -1,0 +1,59 @@
+//! The published check values, and 01's examples.
+
+use super::pcs::summed;
+use super::text::{bytes_word, run, section, value_word, Lines};
+use super::Part;
+use crate::crc;
+use crate::dle;
+use crate::escape;
+use crate::listing::hex;
+use crate::packing;
+use crate::record;
+use crate::sum;
+
+fn crc_lines(lines: &mut Lines, word: &str, bytes: &[u8]) {
+    lines.add(&format!("crc16 {word}"), &hex(&crc::crc16(bytes).to_be_bytes()));
+    lines.add(&format!("crc32 {word}"), &hex(&crc::crc32(bytes).to_be_bytes()));
+}
+
+pub fn crc_section() -> Lines {
+    let mut lines = section("crc");
+    for bytes in [b"123456789", &[][..], &[0x00], &[0x80], &[0x01], &[0xFF, 0xFF, 0xFF, 0xFF]] {
+        crc_lines(&mut lines, &bytes_word(bytes), bytes);
+    }
+    for length in [1024, 1028] {
+        crc_lines(&mut lines, &format!("run{length}"), &run(length));
+    }
+    lines
+}
+
+pub fn examples_section(part: Part) -> Lines {
+    let sum = |bytes: &[u8]| (format!("sum {}", hex(bytes)), sum::pcs(bytes).to_string());
+    let crc16 = |bytes: &[u8]| (format!("crc16 {}", hex(bytes)), hex(&crc::crc16(bytes).to_be_bytes()));
+    let packed = [42, 87, 81, 81, 128, 128, 128, 108];
+    let data = [0x64, 0x96];
+    let marks = [0xFD, 0xFE, 0xFF];
+    let word = [2, 0, 0, 1, 0, 0x64, 0x96];
+    let integer = [3, 0, 0, 1, 0, 0x64, 0x96];
+    let rows = [
+        sum(&summed(0)),
+        sum(&summed(2)),
+        sum(&summed(3)),
+        sum(&[251]),
+        sum(&[128, 128]),
+        (format!("unpack {}", hex(&packed)), hex(&packing::unpack(&packed).unwrap_or_default())),
+        crc16(&[0x31]),
+        crc16(&[0xB1, 0x00, 0x04, 0x47, 0xBA]),
+        (format!("dle-frame 16 3 {}", hex(&data)), hex(&dle::frame(0x10, 3, &data).unwrap_or_default())),
+        (format!("hide {}", hex(&marks)), hex(&escape::hide(&marks))),
+        (format!("element unsigned {} 0", hex(&word)), value_word(record::element_unsigned(&word, 0))),
+        (format!("element signed {} 0", hex(&integer)), value_word(record::element_signed(&integer, 0))),
+    ];
+    let mut lines = section("examples");
+    for (index, (call, answer)) in rows.iter().enumerate() {
+        if call.starts_with("element") == (part == Part::Records) {
+            lines.add(&format!("example {} {call}", index + 1), answer);
+        }
+    }
+    lines
+}
