@@ -149,7 +149,12 @@ fn print_refused(number: u8) {
 
 fn main() {
     let mut first = [0u8; 1];
-    if read_some(&mut first) <= 0 {
+    let got = read_some(&mut first);
+    // a read that fails ends the listing here too, and an empty input has no letter
+    if got < 0 {
+        return;
+    }
+    if got == 0 {
         print_refused(framing::refusal::WRONG_FIELD);
         return;
     }
