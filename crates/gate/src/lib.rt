@@ -304,6 +304,7 @@ pub enum Hop {
     Refused(u8),
 }
 
+// Downward the address is one less, and at 0 the frame is meant for here; 0 has no step.
 pub fn step_down(address: u8) -> Hop
     ensures { λ r. ⌜ hopOf r ≡ stepsDown address ⌝ }
 {
@@ -316,6 +317,7 @@ pub fn step_down(address: u8) -> Hop
     Hop::Onward(address - 1)
 }
 
+// Upward the address is one more; 255 has no step.
 pub fn step_up(address: u8) -> Hop
     ensures { λ r. ⌜ hopOf r ≡ stepsUp address ⌝ }
 {

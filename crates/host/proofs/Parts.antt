@@ -1,70 +1,54 @@
--- What the accessors tell of a message that was read: it may be sent, so that its data length fits 12 bits and a kind fits two.
-use Prim.Native.Nat.{ℕ}
+-- What the accessors tell of a message that was read, over any link.
+use Prim.Native.Nat.{ℕ, _^_, _≤_, _<_}
 use mathlib.Core.Path.{_≡_, sym, ap, _∙_, subst}
-use mathlib.Core.Bool.{true, cond}
-use mathlib.Core.List.{[], _∷_}
+use mathlib.Core.Bool.{true}
+use mathlib.Core.List.{List}
 use native.Mathlib.Omega.{arith}
-use lib.Dec.{eqb, leb, lit<}
-use lib.ListN.{length}
-use borrow.Author.Tests.{leb-true, ne-eqb}
-use Rattle.runs.proofs.Cases.{and-both}
-use Rattle.framing.specs.Answer.{Outcome}
-use Rattle.framing.specs.Link.{Link}
-use Rattle.framing.specs.Whole.{OnlyFrames}
-use Rattle.pcs.specs.Contract as Pcs
-use Rattle.pcs.proofs.Allowed.{sendable, kind-most}
-use Rattle.mdu.specs.Contract as Mdu
-use Rattle.mdu.specs.Frame.{lengthOk}
-use Rattle.dle.specs.Contract as Dle
-use Rattle.dle.specs.Frame.{content, error}
-use Rattle.expansion.specs.Contract as Expansion
-use Rattle.expansion.specs.Frame.{kindOk}
-use Rattle.host.specs.Read.{encode, pcsCode, mduCode, dleCode, expansionCode, lengthOf, kindOf}
+use lib.ListN.{length, getD}
+use Rattle.runs.specs.Runs.{Bytes}
+use Rattle.runs.proofs.Cases.{by-test, by-leb}
+use Rattle.framing.specs.Answer.{Outcome, done}
+use Rattle.framing.specs.Receiver.{Fed}
+use Rattle.framing.specs.Segment.{Event}
+use Rattle.framing.specs.Link.{Link, Lent, told}
+use Rattle.framing.specs.Whole.{settle, exactly, readOn, OnlyFrames}
+use Rattle.host.specs.Read.{packed, encode, lengthOf, kindOf, fieldOf}
 use Rattle.host.specs.Claims.{PartTold}
-use Rattle.host.proofs.Packed.{packed-size, packed-kind}
+use Rattle.host.proofs.Packed.{packed-size, packed-kind, packed-field}
 
--- of the code of a message that may be sent, an accessor tells a part
-abbrev Tells : (L : Link) → (L .Numbers → ℕ) → (ℕ → ℕ) → (L .Numbers → ℕ) → Type 0
-Tells L code accessor part = (m : L .Message) → L .ok m ≡ true → accessor (code (L .numbersOf m)) ≡ part (L .numbersOf m)
+-- a message is told only out of a store that is long enough
+room : (L : Link) (run store : List ℕ) (v : L .Numbers) → readOn L run store .0 ≡ done v → L .size ≤ length store
+room L run store v =
+    by-test P (L .known (L .fresh)) (λ _. by-leb P (L .size) (length store) (λ h _. h) (λ _ e. differ (cc))) (λ _ e. differ (cc))
+  where
+    P : Fed (Event (L .Message)) (Lent L) → Type 0
+    P f = settle (exactly (length run) (f .used) (L .noise (f .after .0))) (told L (f .event)) ≡ done v → L .size ≤ length store
 
-pub part-told : (L : Link) (code : L .Numbers → ℕ) (accessor : ℕ → ℕ) (part : L .Numbers → ℕ) → OnlyFrames L → Tells L code accessor part
-    → PartTold L code accessor part
-part-told L code accessor part only tells run store v y room h =
-    let p = only run store v y room h in
-    ap (λ (o : Outcome (L .Numbers)). accessor (encode code o)) h
-    ∙ subst (λ (x : L .Numbers). accessor (code x) ≡ part x) (sym (p .1 .told)) (tells (p .0) (p .1 .sendable))
+    differ : _≡_ {A = ℕ} 0 1 → L .size ≤ length store
+    differ e = absurd (omega arith)
 
-pub pcs-length : Tells Pcs.link pcsCode lengthOf (λ v. v .length)
-pcs-length m h = let s = sendable m h in packed-size (length (m .payload)) (m .kind) _ (omega arith)
+-- the number of a message packs a size of 12 bits, a kind of two, and fields that are bytes
+pub record Packs {N : Type 0} (code size kind : N → ℕ) (fields : N → List ℕ) (v : N) : Type 0 where
+  pub number : code v ≡ packed (size v) (kind v) (fields v)
+  pub size-fits : size v < 2 ^ 12
+  pub kind-fits : kind v < 2 ^ 2
+  pub fields-fit : Bytes (fields v)
 
-pub pcs-kind : Tells Pcs.link pcsCode kindOf (λ v. v .kind)
-pcs-kind m h =
-    let s = sendable m h in
-    packed-kind (length (m .payload)) (m .kind) _ (omega (arith, kind-most (m .kind) (length (m .payload)) (s .kind)))
+-- so does that of each message that may be sent and whose frame is of bytes
+module _ (L : Link) (only : OnlyFrames L) {code size kind : L .Numbers → ℕ} {fields : L .Numbers → List ℕ}
+    (packs : (m : L .Message) → L .ok m ≡ true → Bytes (L .frame m) → Packs code size kind fields (L .numbersOf m)) where
+  part-told : (accessor : ℕ → ℕ) (part : L .Numbers → ℕ)
+      → ((v : L .Numbers) → Packs code size kind fields v → accessor (packed (size v) (kind v) (fields v)) ≡ part v) → PartTold L code accessor part
+  part-told accessor part tells run store v y h =
+      let p = only run store v y (room L run store v h) h in
+      let k = subst (Packs code size kind fields) (sym (p .1 .told)) (packs (p .0) (p .1 .sendable) (subst Bytes (p .1 .framed) y)) in
+      ap (λ (o : Outcome (L .Numbers)). accessor (encode code o)) h ∙ ap accessor (k .number) ∙ tells v k
 
-pub mdu-length : Tells Mdu.link mduCode lengthOf (λ v. v .length)
-mdu-length m h =
-    let a = and-both (leb 1 (m .address)) (lengthOk (length (m .body))) h in
-    let b = leb-true (length (m .body)) 1025 (and-both (leb 1 (length (m .body))) (leb (length (m .body)) 1025) (a .1) .1) in
-    packed-size (length (m .body)) 0 _ (omega arith)
+  pub length-told : PartTold L code lengthOf size
+  length-told = part-told lengthOf size (λ v k. packed-size (size v) (kind v) (fields v) (k .size-fits))
 
-pub dle-length : Tells Dle.link dleCode lengthOf (λ v. v .length)
-dle-length (content s n d) h =
-    let b = and-both (leb 1 (length d)) (leb (length d) 255) h in
-    let low = leb-true 1 (length d) (b .0) in
-    let high = leb-true (length d) 255 (b .1) in
-    rw (ne-eqb (length d) 0 (λ e. omega arith)) (packed-size (length d) 0 (s ∷ n ∷ 0 ∷ []) (omega arith))
-dle-length (error s n e) h = packed-size 0 1 (s ∷ n ∷ e ∷ []) (lit< tt)
+  pub kind-told : PartTold L code kindOf kind
+  kind-told = part-told kindOf kind (λ v k. packed-kind (size v) (kind v) (fields v) (k .kind-fits))
 
--- 1 for an error message, which has length 0
-pub dle-kind : Tells Dle.link dleCode kindOf (λ v. cond (eqb (v .length) 0) 1 0)
-dle-kind (content s n d) h =
-    let low = leb-true 1 (length d) (and-both (leb 1 (length d)) (leb (length d) 255) h .0) in
-    rw (ne-eqb (length d) 0 (λ e. omega arith)) (packed-kind (length d) 0 (s ∷ n ∷ 0 ∷ []) (lit< tt))
-dle-kind (error s n e) h = packed-kind 0 1 (s ∷ n ∷ e ∷ []) (lit< tt)
-
-pub expansion-length : Tells Expansion.link expansionCode lengthOf (λ v. v .length)
-expansion-length m h =
-    let a = and-both (kindOk (m .kind) (length (m .payload))) _ h in
-    let b = leb-true (length (m .payload)) 1024 (and-both (leb (m .repeat) 3) (leb (length (m .payload)) 1024) (a .1) .1) in
-    packed-size (length (m .payload)) 0 _ (omega arith)
+  pub field-told : (i : ℕ) → PartTold L code (fieldOf i) (λ v. getD (fields v) i 0)
+  field-told i = part-told (fieldOf i) (λ v. getD (fields v) i 0) (λ v k. packed-field (size v) (kind v) (fields v) i (k .fields-fit))

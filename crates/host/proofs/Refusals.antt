@@ -1,6 +1,7 @@
--- The number of a refusal is 1 to 13, by the rules of each link.
+-- The number of a refusal is 1 to 13, by the rules of each link, so that bits 0 to 7 of an answer tell it.
 use Prim.Native.Nat.{ℕ, _+_, _-_, _≤_}
-use mathlib.Core.Path.{_≡_, refl, subst}
+use mathlib.Core.Path.{_≡_, refl, ap, subst}
+use mathlib.Core.Logic.{_↔_}
 use mathlib.Core.Bool.{Bool, true, false, cond, _&&_, not}
 use mathlib.Core.List.{List, [], _∷_, _++_}
 use mathlib.Core.Option.{Option, none, some}
@@ -25,7 +26,10 @@ use Rattle.packing.specs.Unpacked.{unpacked}
 use Rattle.checksum.specs.Crc.{crc16Of}
 use Rattle.mdu.specs.Frame.{headerSum, lengthOk}
 use Rattle.host.specs.Read.{encode, refusalOf}
-use Rattle.host.specs.Claims.{RefusalsFit, ZeroIsMessage}
+use Rattle.host.specs.Claims.{RefusalsFit, RefusalTold}
+
+differ : {A : Type 0} → _≡_ {A = ℕ} 0 1 → A
+differ e = absurd (omega arith)
 
 abbrev fits : ℕ → Bool
 fits n = leb 1 n && leb n 13
@@ -70,7 +74,7 @@ module _ (L : Link) (closes : (p : L .Phase) (b : ℕ) → Closes (L .cut p b .1
 
   settled : (t : Bool) (o : Option (Event (L .Message))) (n : ℕ) → Hears o → settle t (told L o) ≡ refused n → fits n ≡ true
   settled t none n h e = let k : _≡_ {A = ℕ} 6 n = cc in subst (λ (x : ℕ). fits x ≡ true) k refl
-  settled true (some (message m)) n h e = absurd (let z : _≡_ {A = ℕ} 0 1 = cc in omega arith)
+  settled true (some (message m)) n h e = differ (cc)
   settled false (some (message m)) n h e = let k : _≡_ {A = ℕ} 6 n = cc in subst (λ (x : ℕ). fits x ≡ true) k refl
   settled t (some (refusal j)) n h e = let k : j ≡ n = cc in subst (λ (x : ℕ). fits x ≡ true) k h
 
@@ -80,13 +84,24 @@ module _ (L : Link) (closes : (p : L .Phase) (b : ℕ) → Closes (L .cut p b .1
       let b = and-both (leb 1 n) (leb n 13) (settled (exactly (length run) (f .used) (L .noise (f .after .0))) (f .event) n (hears-call (L .fresh, store) run) e) in
       (leb-true 1 n (b .0), leb-true n 13 (b .1))
 
-  no-refusal : (code : L .Numbers → ℕ) (o : Outcome (L .Numbers)) → ((n : ℕ) → o ≡ refused n → (1 ≤ n) × (n ≤ 13)) → refusalOf (encode code o) ≡ 0
-      → (v : L .Numbers) × (o ≡ done v)
-  no-refusal code (done v) f h = (v, refl)
-  no-refusal code (refused n) f h = let k = f n refl in absurd (omega arith)
+  module _ (code : L .Numbers → ℕ) (zero-bits : (v : L .Numbers) → refusalOf (code v) ≡ 0) where
+    -- of what a call answers, where a refusal fits
+    zero-iff : (o : Outcome (L .Numbers)) → ((n : ℕ) → o ≡ refused n → (1 ≤ n) × (n ≤ 13))
+        → (refusalOf (encode code o) ≡ 0) ↔ ((v : L .Numbers) × (o ≡ done v))
+    zero-iff (done v) f = (λ _. (v, refl), λ _. zero-bits v)
+    zero-iff (refused n) f = (λ h. let k = f n refl in absurd (omega arith), λ p. differ (cc))
 
-  pub zero-is-message : (code : L .Numbers → ℕ) → ZeroIsMessage L code
-  zero-is-message code run store h = no-refusal code (readOn L run store .0) (refusals-fit run store) h
+    number-iff : (o : Outcome (L .Numbers)) → ((n : ℕ) → o ≡ refused n → (1 ≤ n) × (n ≤ 13)) → (n : ℕ) → 1 ≤ n
+        → (refusalOf (encode code o) ≡ n) ↔ (o ≡ refused n)
+    number-iff (done v) f n l = (λ h. let z = zero-bits v in absurd (omega arith), λ h. differ (cc))
+    number-iff (refused j) f n l =
+        let k = f j refl in
+        (λ h. ap refused (omega arith), λ h. let e : j ≡ n = cc in omega arith)
+
+    pub refusal-told : RefusalTold L code
+    refusal-told run store =
+        let o = readOn L run store .0 in
+        (zero-iff o (refusals-fit run store), number-iff o (refusals-fit run store))
 
 -- the rules: of each test either way
 abbrev Cut : {P M : Type 0} → P × Option (Segment M) → Type 0

@@ -1,4 +1,4 @@
--- What is claimed of the host's calls on each link. `Packed` has the laws of the number itself: each accessor gives back its part where that fits.
+-- What is claimed of the host's calls on each link.
 use mathlib.Core.Bool.{cond}
 use lib.Dec.{eqb}
 use Rattle.framing.specs.Whole.{OnlyFrames, FramesRead}
@@ -11,11 +11,12 @@ use Rattle.dle.specs.Contract as Dle
 use Rattle.dle.proofs.Lawful as dle
 use Rattle.expansion.specs.Contract as Expansion
 use Rattle.expansion.proofs.Lawful as expansion
-use Rattle.host.specs.Read.{pcsCode, mduCode, dleCode, expansionCode, lengthOf, kindOf}
-use Rattle.host.specs.Claims.{FrameBound, RefusalsFit, ZeroIsMessage, PartTold}
+use Rattle.host.specs.Read.{pcsCode, mduCode, dleCode, expansionCode, lengthOf, kindOf, fieldOf}
+use Rattle.host.specs.Claims.{FrameBound, RefusalsFit, RefusalTold, PartTold}
 use Rattle.host.proofs.Bounds as bounds
-use Rattle.host.proofs.Refusals.{refusals-fit, zero-is-message, pcs-closes, mdu-closes, dle-closes, expansion-closes}
-use Rattle.host.proofs.Parts.{part-told, pcs-length, pcs-kind, mdu-length, dle-length, dle-kind, expansion-length}
+use Rattle.host.proofs.Refusals.{refusals-fit, refusal-told, pcs-closes, mdu-closes, dle-closes, expansion-closes}
+use Rattle.host.proofs.Parts.{length-told, kind-told, field-told}
+use Rattle.host.proofs.Fields.{pcs-packs, pcs-zero, mdu-packs, mdu-zero, dle-packs, dle-zero, expansion-packs, expansion-zero}
 
 -- ---- PCS
 
@@ -31,14 +32,29 @@ pcs-frames-read = frames-read Pcs.link pcs.lawful (bounds.short Pcs.link bounds.
 pub pcs-refusals-fit : RefusalsFit Pcs.link
 pcs-refusals-fit = refusals-fit Pcs.link pcs-closes
 
-pub pcs-zero-is-message : ZeroIsMessage Pcs.link pcsCode
-pcs-zero-is-message = zero-is-message Pcs.link pcs-closes pcsCode
+pub pcs-refusal-told : RefusalTold Pcs.link pcsCode
+pcs-refusal-told = refusal-told Pcs.link pcs-closes pcsCode pcs-zero
 
 pub pcs-length-told : PartTold Pcs.link pcsCode lengthOf (λ v. v .length)
-pcs-length-told = part-told Pcs.link pcsCode lengthOf (λ v. v .length) pcs-only-frames pcs-length
+pcs-length-told = length-told Pcs.link pcs-only-frames pcs-packs
 
 pub pcs-kind-told : PartTold Pcs.link pcsCode kindOf (λ v. v .kind)
-pcs-kind-told = part-told Pcs.link pcsCode kindOf (λ v. v .kind) pcs-only-frames pcs-kind
+pcs-kind-told = kind-told Pcs.link pcs-only-frames pcs-packs
+
+pub pcs-receiver-told : PartTold Pcs.link pcsCode (fieldOf 0) (λ v. v .receiver)
+pcs-receiver-told = field-told Pcs.link pcs-only-frames pcs-packs 0
+
+pub pcs-sender-told : PartTold Pcs.link pcsCode (fieldOf 1) (λ v. v .sender)
+pcs-sender-told = field-told Pcs.link pcs-only-frames pcs-packs 1
+
+pub pcs-number-told : PartTold Pcs.link pcsCode (fieldOf 2) (λ v. v .number)
+pcs-number-told = field-told Pcs.link pcs-only-frames pcs-packs 2
+
+pub pcs-sender-port-told : PartTold Pcs.link pcsCode (fieldOf 3) (λ v. v .«sender_port»)
+pcs-sender-port-told = field-told Pcs.link pcs-only-frames pcs-packs 3
+
+pub pcs-receiver-port-told : PartTold Pcs.link pcsCode (fieldOf 4) (λ v. v .«receiver_port»)
+pcs-receiver-port-told = field-told Pcs.link pcs-only-frames pcs-packs 4
 
 -- ---- MDU
 
@@ -54,11 +70,14 @@ mdu-frames-read = frames-read Mdu.link mdu.lawful (bounds.short Mdu.link bounds.
 pub mdu-refusals-fit : RefusalsFit Mdu.link
 mdu-refusals-fit = refusals-fit Mdu.link mdu-closes
 
-pub mdu-zero-is-message : ZeroIsMessage Mdu.link mduCode
-mdu-zero-is-message = zero-is-message Mdu.link mdu-closes mduCode
+pub mdu-refusal-told : RefusalTold Mdu.link mduCode
+mdu-refusal-told = refusal-told Mdu.link mdu-closes mduCode mdu-zero
 
 pub mdu-length-told : PartTold Mdu.link mduCode lengthOf (λ v. v .length)
-mdu-length-told = part-told Mdu.link mduCode lengthOf (λ v. v .length) mdu-only-frames mdu-length
+mdu-length-told = length-told Mdu.link mdu-only-frames mdu-packs
+
+pub mdu-address-told : PartTold Mdu.link mduCode (fieldOf 0) (λ v. v .address)
+mdu-address-told = field-told Mdu.link mdu-only-frames mdu-packs 0
 
 -- ---- DLE
 
@@ -74,15 +93,24 @@ dle-frames-read = frames-read Dle.link dle.lawful (bounds.short Dle.link bounds.
 pub dle-refusals-fit : RefusalsFit Dle.link
 dle-refusals-fit = refusals-fit Dle.link dle-closes
 
-pub dle-zero-is-message : ZeroIsMessage Dle.link dleCode
-dle-zero-is-message = zero-is-message Dle.link dle-closes dleCode
+pub dle-refusal-told : RefusalTold Dle.link dleCode
+dle-refusal-told = refusal-told Dle.link dle-closes dleCode dle-zero
 
 pub dle-length-told : PartTold Dle.link dleCode lengthOf (λ v. v .length)
-dle-length-told = part-told Dle.link dleCode lengthOf (λ v. v .length) dle-only-frames dle-length
+dle-length-told = length-told Dle.link dle-only-frames dle-packs
 
 -- 1 for an error message, which has length 0
 pub dle-kind-told : PartTold Dle.link dleCode kindOf (λ v. cond (eqb (v .length) 0) 1 0)
-dle-kind-told = part-told Dle.link dleCode kindOf (λ v. cond (eqb (v .length) 0) 1 0) dle-only-frames dle-kind
+dle-kind-told = kind-told Dle.link dle-only-frames dle-packs
+
+pub dle-sequence-told : PartTold Dle.link dleCode (fieldOf 0) (λ v. v .sequence)
+dle-sequence-told = field-told Dle.link dle-only-frames dle-packs 0
+
+pub dle-node-told : PartTold Dle.link dleCode (fieldOf 1) (λ v. v .node)
+dle-node-told = field-told Dle.link dle-only-frames dle-packs 1
+
+pub dle-error-told : PartTold Dle.link dleCode (fieldOf 2) (λ v. v .error)
+dle-error-told = field-told Dle.link dle-only-frames dle-packs 2
 
 -- ---- expansion
 
@@ -98,8 +126,20 @@ expansion-frames-read = frames-read Expansion.link expansion.lawful (bounds.shor
 pub expansion-refusals-fit : RefusalsFit Expansion.link
 expansion-refusals-fit = refusals-fit Expansion.link expansion-closes
 
-pub expansion-zero-is-message : ZeroIsMessage Expansion.link expansionCode
-expansion-zero-is-message = zero-is-message Expansion.link expansion-closes expansionCode
+pub expansion-refusal-told : RefusalTold Expansion.link expansionCode
+expansion-refusal-told = refusal-told Expansion.link expansion-closes expansionCode expansion-zero
 
 pub expansion-length-told : PartTold Expansion.link expansionCode lengthOf (λ v. v .length)
-expansion-length-told = part-told Expansion.link expansionCode lengthOf (λ v. v .length) expansion-only-frames expansion-length
+expansion-length-told = length-told Expansion.link expansion-only-frames expansion-packs
+
+pub expansion-id-told : PartTold Expansion.link expansionCode (fieldOf 0) (λ v. v .id)
+expansion-id-told = field-told Expansion.link expansion-only-frames expansion-packs 0
+
+pub expansion-type-told : PartTold Expansion.link expansionCode (fieldOf 1) (λ v. v .kind)
+expansion-type-told = field-told Expansion.link expansion-only-frames expansion-packs 1
+
+pub expansion-repeat-told : PartTold Expansion.link expansionCode (fieldOf 2) (λ v. v .repeat)
+expansion-repeat-told = field-told Expansion.link expansion-only-frames expansion-packs 2
+
+pub expansion-address-told : PartTold Expansion.link expansionCode (fieldOf 3) (λ v. v .address)
+expansion-address-told = field-told Expansion.link expansion-only-frames expansion-packs 3

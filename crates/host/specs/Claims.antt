@@ -1,6 +1,7 @@
 -- What is claimed of the calls, over any link. proofs/Theorems.antt proves it for each.
 use Prim.Native.Nat.{ℕ, _≤_}
 use mathlib.Core.Path.{_≡_}
+use mathlib.Core.Logic.{_↔_}
 use mathlib.Core.Bool.{true}
 use mathlib.Core.List.{List}
 use lib.ListN.{length}
@@ -19,12 +20,14 @@ module _ (L : Link) where
   abbrev pub RefusalsFit : Type 0
   RefusalsFit = (run store : List ℕ) (n : ℕ) → readOn L run store .0 ≡ refused n → (1 ≤ n) × (n ≤ 13)
 
-  -- so an answer without a refusal in its bits 0 to 7 is a message
-  abbrev pub ZeroIsMessage : (L .Numbers → ℕ) → Type 0
-  ZeroIsMessage code = (run store : List ℕ) → refusalOf (reads L code run store .0) ≡ 0 → (v : L .Numbers) × (readOn L run store .0 ≡ done v)
+  -- bits 0 to 7 of an answer are 0 exactly when a message is told, and any other number exactly when the call is refused with it
+  abbrev pub RefusalTold : (L .Numbers → ℕ) → Type 0
+  RefusalTold code =
+      (run store : List ℕ)
+      → ((refusalOf (reads L code run store .0) ≡ 0) ↔ ((v : L .Numbers) × (readOn L run store .0 ≡ done v)))
+      × ((n : ℕ) → 1 ≤ n → (refusalOf (reads L code run store .0) ≡ n) ↔ (readOn L run store .0 ≡ refused n))
 
-  -- of which an accessor tells a part
+  -- of a message that is told, an accessor tells a part
   abbrev pub PartTold : (L .Numbers → ℕ) → (ℕ → ℕ) → (L .Numbers → ℕ) → Type 0
   PartTold code accessor part =
-      (run store : List ℕ) (v : L .Numbers) → Bytes run → L .size ≤ length store → readOn L run store .0 ≡ done v
-      → accessor (reads L code run store .0) ≡ part v
+      (run store : List ℕ) (v : L .Numbers) → Bytes run → readOn L run store .0 ≡ done v → accessor (reads L code run store .0) ≡ part v

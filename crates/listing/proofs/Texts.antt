@@ -8,7 +8,7 @@ use lib.ListN.{length, length-append, length-take, length-drop}
 use lib.Seq.{length-sets, length-take-le}
 use Rattle.io.specs.Counts.{Counts}
 use Rattle.runs.proofs.Cases.{by-leb, by-eqb}
-use Rattle.framing.specs.Answer.{Outcome, done, storedAt}
+use Rattle.framing.specs.Answer.{Outcome, done, countOf, storedAt}
 use Rattle.framing.specs.Link.{dataAt}
 use Rattle.framing.proofs.Stored.{stored-done}
 use Rattle.pcs.specs.Contract as Pcs
@@ -21,7 +21,7 @@ use Rattle.listing_text.specs.Text as Text
 use Rattle.listing_text.specs.Text.{ascii, text, line, shown}
 use Rattle.listing_text.proofs.Decimal.{decimal-few}
 use Rattle.listing_text.proofs.Lines.{length-message, length-none, length-some}
-use Rattle.listing.specs.Lines.{dleLine, textOf, lengthOf}
+use Rattle.listing.specs.Lines.{dleLine, textOf}
 use Rattle.listing.specs.Receivers.{lineIn}
 use Rattle.listing.specs.declared.receiver.Event.{Event}
 use Rattle.listing.specs.declared.receiver.Event.the-variants as event
@@ -80,18 +80,18 @@ event-fits store (event.Refused n) h = refused-fits n
 
 -- what a call that stores a run tells of its length, for the caller that prints it
 abbrev Fits : Outcome ℕ × List ℕ → Type 0
-Fits p = lengthOf (p .0) ≤ length (p .1)
+Fits p = countOf (p .0) ≤ length (p .1)
 
 module _ (run memory : List ℕ) {o : Outcome ℕ} {after : List ℕ} (e : (o, after) ≡ storedAt run memory 0) where
   fits : Fits (storedAt run memory 0)
   unfolding storedAt
   fits = by-leb Fits (0 + length run) (length memory) (λ h. simp length-sets (omega arith)) (λ _. omega arith)
 
-  pub stored-counts : Counts (lengthOf o) after
-  stored-counts = let h = subst Fits (sym e) fits in (h, sym (length-take-le (lengthOf o) after h))
+  pub stored-counts : Counts (countOf o) after
+  stored-counts = let h = subst Fits (sym e) fits in (h, sym (length-take-le (countOf o) after h))
 
-  pub stored-whole : length run ≤ length memory → lengthOf o ≡ length run
-  stored-whole h = ap (λ (p : Outcome ℕ × List ℕ). lengthOf (p .0)) (e ∙ stored-done run memory 0 (omega arith))
+  pub stored-whole : length run ≤ length memory → countOf o ≡ length run
+  stored-whole h = ap (λ (p : Outcome ℕ × List ℕ). countOf (p .0)) (e ∙ stored-done run memory 0 (omega arith))
 
 pub stored-nothing : (memory : List ℕ) → (done 0, memory) ≡ storedAt [] memory 0
 stored-nothing memory = sym (stored-done [] memory 0 (omega arith))

@@ -11,7 +11,7 @@ ghost use mathlib.Core.Path.{_≡_};
 ghost use Prim.Native.Nat.{_≤_};
 ghost use lib.ListN.{length};
 ghost use Rattle.framing.specs.Answer.{outcomeOf, storedAt};
-ghost use Rattle.listing.specs.Lines.{textOf, lengthOf};
+ghost use Rattle.listing.specs.Lines.{textOf};
 ghost use Rattle.listing.specs.Receivers.{lineIn, drivenBy};
 
 // The store of the link with the largest size, PCS.
@@ -21,16 +21,6 @@ const STORE: usize = 1180;
 struct Listed {
     receiver: Receiver,
     written: bool,
-}
-
-// How long a stored line is; 0 where none was stored.
-fn stored_length(stored: Answer) -> usize
-    ensures { λ r. ⌜ r ≡ lengthOf (outcomeOf stored) ⌝ }
-{
-    match stored {
-        Answer::Done(n) => n,
-        Answer::Refused(_) => 0,
-    }
 }
 
 // Stores the line of an event at the start of a memory, and nothing where there is no event.
@@ -71,7 +61,7 @@ fn list_piece(receiver: Receiver, store: &mut [u8], piece: &[u8]) -> Listed
         current = after;
         let event = got.event;
         let used = got.used;
-        let n = stored_length(put_line(event, store, &mut out));
+        let n = framing::count_of(put_line(event, store, &mut out));
         if n == 0 {
             return Listed {
                 receiver: current,
@@ -94,9 +84,9 @@ fn list_piece(receiver: Receiver, store: &mut [u8], piece: &[u8]) -> Listed
 fn print_end(receiver: Receiver) {
     let mut out = [0u8; 32];
     let base = receiver::base(receiver);
-    let n = stored_length(listing_text::noise(base.noise, &mut out));
+    let n = framing::count_of(listing_text::noise(base.noise, &mut out));
     let written = print_after(true, &out[..n]);
-    let m = stored_length(listing_text::open(base.open, &mut out));
+    let m = framing::count_of(listing_text::open(base.open, &mut out));
     print_after(written, &out[..m]);
 }
 
@@ -145,7 +135,7 @@ fn list_all(fresh: Receiver) {
 // Prints the link's line, and lists what follows its letter.
 fn list_link(letter: u8, fresh: Receiver) {
     let mut out = [0u8; 32];
-    let n = stored_length(listing_text::link(letter, &mut out));
+    let n = framing::count_of(listing_text::link(letter, &mut out));
     if print_after(true, &out[..n]) {
         list_all(fresh);
     }
@@ -153,13 +143,18 @@ fn list_link(letter: u8, fresh: Receiver) {
 
 fn print_refused(number: u8) {
     let mut out = [0u8; 32];
-    let n = stored_length(listing_text::refused(number, &mut out));
+    let n = framing::count_of(listing_text::refused(number, &mut out));
     print_after(true, &out[..n]);
 }
 
 fn main() {
     let mut first = [0u8; 1];
-    if read_some(&mut first) <= 0 {
+    let got = read_some(&mut first);
+    // a read that fails ends the listing here too, and an empty input has no letter
+    if got < 0 {
+        return;
+    }
+    if got == 0 {
         print_refused(framing::refusal::WRONG_FIELD);
         return;
     }

@@ -7,8 +7,10 @@ ghost use lib.Dec.{leb};
 ghost use Rattle.pcs.specs.Frame.{plainOk, receiverOk, kindOk};
 ghost use Rattle.pcs.specs.Steps.{plainFieldsOk};
 
+// The first byte of a frame.
 pub const START: u8 = 253;
 
+// The last byte of a frame.
 pub const END: u8 = 254;
 
 // Whether an address, a number or a port is allowed.

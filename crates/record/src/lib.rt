@@ -31,11 +31,13 @@ struct Head {
     count: usize,
 }
 
+// An unsigned element that was read, or the number of a refusal.
 pub enum UnsignedElement {
     Fare(u32),
     Refused(u8),
 }
 
+// The same for a signed one.
 pub enum SignedElement {
     Fare(i32),
     Refused(u8),

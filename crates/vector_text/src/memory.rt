@@ -23,6 +23,7 @@ fn byte_of(content: Content, k: usize) -> u8
     }
 }
 
+// Fills a memory with a content.
 pub fn fill(content: Content, out: &mut [u8])
     ensures { λ _. ⌜ now (out .exit) ≡ laid (byteOf content) (length (now (out .entry))) ⌝ }
 {
@@ -33,6 +34,7 @@ pub fn fill(content: Content, out: &mut [u8])
     }
 }
 
+// A byte as a number of 64 bits.
 pub(crate) fn wide(byte: u8) -> u64
     ensures { λ r. ⌜ (r ≡ byte) × (r ≤ 255) ⌝ }
 {

@@ -5,12 +5,14 @@ use libc::STDOUT_FILENO;
 ghost use mathlib.Core.Path.{_≡_};
 ghost use Prim.Native.Nat.{_<_};
 
+// Bytes as they are.
 pub fn text(bytes: &[u8])
     ensures { λ _. ⌜ now (bytes .exit) ≡ now (bytes .entry) ⌝ }
 {
     io::write_all(STDOUT_FILENO, bytes);
 }
 
+// A word behind a space.
 pub fn word(name: &[u8])
     ensures { λ _. ⌜ now (name .exit) ≡ now (name .entry) ⌝ }
 {
@@ -42,6 +44,7 @@ pub fn numbers(name: &[u8], values: &[u8])
     }
 }
 
+// A name and a number.
 pub fn named(name: &[u8], value: u64)
     ensures { λ _. ⌜ now (name .exit) ≡ now (name .entry) ⌝ }
 {
@@ -60,6 +63,7 @@ fn hex_byte(byte: u8) {
     text(&pair);
 }
 
+// Bytes in upper-case hex, behind a space.
 pub fn hex(bytes: &[u8])
     ensures { λ _. ⌜ now (bytes .exit) ≡ now (bytes .entry) ⌝ }
 {
@@ -84,6 +88,7 @@ pub fn bytes(bytes: &[u8])
     }
 }
 
+// A name, and the number that the bytes are compared by.
 pub fn mix(name: &[u8], bytes: &[u8])
     ensures { λ _. ⌜ (now (name .exit) ≡ now (name .entry)) × (now (bytes .exit) ≡ now (bytes .entry)) ⌝ }
 {

@@ -34,6 +34,7 @@ fn word(line: &[u8], k: usize) -> &[u8]
     &line[from..to]
 }
 
+// Whether word k is this name.
 pub fn is(line: &[u8], k: usize, name: &[u8]) -> bool
     ensures { λ r. ⌜ (r ≡ true → wordOf k (now (line .entry)) ≡ now (name .entry)) × (wordOf k (now (line .entry)) ≡ now (name .entry) → r ≡ true) ⌝ }
 {
@@ -81,24 +82,28 @@ fn number(line: &[u8], k: usize) -> u64
     decimal(word(line, k))
 }
 
+// Word k as a number.
 pub fn size(line: &[u8], k: usize) -> usize
     ensures { λ r. ⌜ r ≡ numberOf k (now (line .entry)) ⌝ }
 {
     number(line, k) as usize
 }
 
+// Word k as a number modulo 2^32.
 pub fn number32(line: &[u8], k: usize) -> u32
     ensures { λ r. ⌜ r ≡ numberOf k (now (line .entry)) % 2 ^ 32 ⌝ }
 {
     (number(line, k) % 4294967296) as u32
 }
 
+// Word k as a number modulo 2^16.
 pub fn number16(line: &[u8], k: usize) -> u16
     ensures { λ r. ⌜ r ≡ numberOf k (now (line .entry)) % 2 ^ 16 ⌝ }
 {
     (number(line, k) % 65536) as u16
 }
 
+// Word k as a number modulo 256.
 pub fn byte(line: &[u8], k: usize) -> u8
     ensures { λ r. ⌜ r ≡ numberOf k (now (line .entry)) % 2 ^ 8 ⌝ }
 {

@@ -93,7 +93,8 @@ fn ask(line: &[u8], asking: gate::Exchange) -> gate::Exchange {
         return stated(line, asking);
     }
     if words::is(line, 1, b"cycle") {
-        return cycle(asking, words::size(line, 2));
+        // a count of 16 bits, so that no line takes long
+        return cycle(asking, words::number16(line, 2) as usize);
     }
     stepped(step(line, asking))
 }

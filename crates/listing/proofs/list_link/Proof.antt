@@ -9,14 +9,14 @@ slice-aggregate-link c = search needs
 link-requires : tie.Need-link-requires
 link-requires c κs = tt
 
-stored-length-requires : tie.Need-stored-length-requires
-stored-length-requires c κs = tt
+count-of-requires : tie.Need-count-of-requires
+count-of-requires c κs = tt
 
 array-share-prefix-out : tie.Need-array-share-prefix-out
-array-share-prefix-out c = rw (c .stored-length .ensures) (stored-counts _ _ (c .before .before .link .ensures) .0)
+array-share-prefix-out c = rw (c .count-of .ensures) (stored-counts _ _ (c .before .before .link .ensures) .0)
 
 slice-aggregate-print-after : tie.Need-slice-aggregate-print-after
-slice-aggregate-print-after c = rw (c .before .stored-length .ensures) (stored-counts _ _ (c .before .before .before .link .ensures) .1)
+slice-aggregate-print-after c = rw (c .before .count-of .ensures) (stored-counts _ _ (c .before .before .before .link .ensures) .1)
 
 print-after-requires : tie.Need-print-after-requires
 print-after-requires c κs = tt
@@ -36,7 +36,7 @@ list-link-spec =
     (tie.spec
     slice-aggregate-link
     link-requires
-    stored-length-requires
+    count-of-requires
     array-share-prefix-out
     slice-aggregate-print-after
     print-after-requires

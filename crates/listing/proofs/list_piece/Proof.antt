@@ -21,13 +21,13 @@ abbrev μ-loop : tie.MeasureT-loop
 μ-loop store₀ piece out₀ current₀ rest₀ written₀ store out current rest written = length rest
 
 -- the stored bytes are those of the event's line
-stored : (c : tie.After-stored-length Inv-loop μ-loop)
+stored : (c : tie.After-count-of Inv-loop μ-loop)
     → let u = c .before .before .before .before .before .before .before .call in
-    c .stored-length .result ≡ length (textOf (lineIn (u .last .1 .0) (u .result .event)))
+    c .count-of .result ≡ length (textOf (lineIn (u .last .1 .0) (u .result .event)))
 stored c =
     let l = c .before .before .before .before .before .before .before .before .before .loop in
     let u = c .before .before .before .before .before .before .before .call in
-    c .stored-length .ensures
+    c .count-of .ensures
     ∙ stored-whole _ (l .out) (c .before .before .put-line .ensures)
     (omega (arith, event-fits (u .last .1 .0) (u .result .event) (omega (arith, u .kept .1 .0, l .inv .0, l .inv .1)), l .inv .2))
 
@@ -49,8 +49,8 @@ slice-aggregate-put-line c = search needs
 put-line-requires : tie.Need-put-line-requires Inv-loop μ-loop
 put-line-requires c κs = tt
 
-stored-length-requires : tie.Need-stored-length-requires Inv-loop μ-loop
-stored-length-requires c κs = tt
+count-of-requires : tie.Need-count-of-requires Inv-loop μ-loop
+count-of-requires c κs = tt
 
 same-length : tie.Need-same-length Inv-loop μ-loop
 same-length c = search needs
@@ -61,10 +61,10 @@ returns c =
     listing-none (c .before .before .before .before .before .before .before .before .call .ensures) (a .receiver) (now (a .store)) (now (a .piece)) (c .before .before .before .before .before .before .before .before .before .before .loop .inv .3) (sym (stored (c .before)) ∙ c .if1 .taken)
 
 array-share-prefix-out : tie.Need-array-share-prefix-out Inv-loop μ-loop
-array-share-prefix-out c = rw (c .before .stored-length .ensures) (stored-counts _ _ (c .before .before .before .put-line .ensures) .0)
+array-share-prefix-out c = rw (c .before .count-of .ensures) (stored-counts _ _ (c .before .before .before .put-line .ensures) .0)
 
 slice-aggregate-print-after : tie.Need-slice-aggregate-print-after Inv-loop μ-loop
-slice-aggregate-print-after c = rw (c .before .before .stored-length .ensures) (stored-counts _ _ (c .before .before .before .before .put-line .ensures) .1)
+slice-aggregate-print-after c = rw (c .before .before .count-of .ensures) (stored-counts _ _ (c .before .before .before .before .put-line .ensures) .1)
 
 print-after-requires : tie.Need-print-after-requires Inv-loop μ-loop
 print-after-requires c κs = tt
@@ -109,7 +109,7 @@ list-piece-spec =
     call-requires
     slice-aggregate-put-line
     put-line-requires
-    stored-length-requires
+    count-of-requires
     same-length
     returns
     array-share-prefix-out

@@ -12,14 +12,14 @@ slice-aggregate-noise c = search needs
 noise-requires : tie.Need-noise-requires
 noise-requires c κs = tt
 
-stored-length-requires : tie.Need-stored-length-requires
-stored-length-requires c κs = tt
+count-of-requires : tie.Need-count-of-requires
+count-of-requires c κs = tt
 
 array-share-prefix-out : tie.Need-array-share-prefix-out
-array-share-prefix-out c = rw (c .stored-length .ensures) (stored-counts _ _ (c .before .before .noise .ensures) .0)
+array-share-prefix-out c = rw (c .count-of .ensures) (stored-counts _ _ (c .before .before .noise .ensures) .0)
 
 slice-aggregate-print-after : tie.Need-slice-aggregate-print-after
-slice-aggregate-print-after c = rw (c .before .stored-length .ensures) (stored-counts _ _ (c .before .before .before .noise .ensures) .1)
+slice-aggregate-print-after c = rw (c .before .count-of .ensures) (stored-counts _ _ (c .before .before .before .noise .ensures) .1)
 
 print-after-requires : tie.Need-print-after-requires
 print-after-requires c κs = tt
@@ -30,14 +30,14 @@ slice-aggregate-open c = search needs
 open-requires : tie.Need-open-requires
 open-requires c κs = tt
 
-stored-length-requires-2 : tie.Need-stored-length-requires-2
-stored-length-requires-2 c κs = tt
+count-of-requires-2 : tie.Need-count-of-requires-2
+count-of-requires-2 c κs = tt
 
 array-share-prefix-out-2 : tie.Need-array-share-prefix-out-2
-array-share-prefix-out-2 c = rw (c .stored-length2 .ensures) (stored-counts _ _ (c .before .before .«open» .ensures) .0)
+array-share-prefix-out-2 c = rw (c .count-of2 .ensures) (stored-counts _ _ (c .before .before .«open» .ensures) .0)
 
 slice-aggregate-print-after-2 : tie.Need-slice-aggregate-print-after-2
-slice-aggregate-print-after-2 c = rw (c .before .stored-length2 .ensures) (stored-counts _ _ (c .before .before .before .«open» .ensures) .1)
+slice-aggregate-print-after-2 c = rw (c .before .count-of2 .ensures) (stored-counts _ _ (c .before .before .before .«open» .ensures) .1)
 
 print-after-requires-2 : tie.Need-print-after-requires-2
 print-after-requires-2 c κs = tt
@@ -52,13 +52,13 @@ print-end-spec =
     base-requires
     slice-aggregate-noise
     noise-requires
-    stored-length-requires
+    count-of-requires
     array-share-prefix-out
     slice-aggregate-print-after
     print-after-requires
     slice-aggregate-open
     open-requires
-    stored-length-requires-2
+    count-of-requires-2
     array-share-prefix-out-2
     slice-aggregate-print-after-2
     print-after-requires-2
