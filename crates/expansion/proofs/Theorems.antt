@@ -1,6 +1,7 @@
 -- What is claimed of the expansion link: the claims on every link, the bound on its frames, its check value, and what a wrong check value leaves.
-use Rattle.framing.specs.Claims.{ReadsBack, Canonical, CutAnywhere, Accounted, Demand3}
+use Rattle.framing.specs.Claims.{ReadsBack, CallsReadBack, Canonical, CutAnywhere, Accounted, Demand3}
 use Rattle.framing.proofs.Lawful as any
+use Rattle.framing.proofs.Wire as Wire
 use Rattle.escape.proofs.Expansion.{expansion-bound}
 use Rattle.checksum.specs.Claims.{Crc32Detects}
 use Rattle.checksum.proofs.CheckValue.{crc32-detects}
@@ -12,6 +13,9 @@ use Rattle.expansion.proofs.Refused as wrong
 
 pub reads-back : ReadsBack link
 reads-back = any.reads-back link lawful
+
+pub calls-read-back : CallsReadBack link
+calls-read-back = Wire.calls-read-back link lawful
 
 pub canonical : Canonical link
 canonical = any.canonical link lawful
