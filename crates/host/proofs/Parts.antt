@@ -30,7 +30,7 @@ Tells L code accessor part = (m : L .Message) → L .ok m ≡ true → accessor 
 pub part-told : (L : Link) (code : L .Numbers → ℕ) (accessor : ℕ → ℕ) (part : L .Numbers → ℕ) → OnlyFrames L → Tells L code accessor part
     → PartTold L code accessor part
 part-told L code accessor part only tells run store v y room h =
-    let p = only run store v y room h in
+    let p = only run store v y h in
     ap (λ (o : Outcome (L .Numbers)). accessor (encode code o)) h
     ∙ subst (λ (x : L .Numbers). accessor (code x) ≡ part x) (sym (p .1 .told)) (tells (p .0) (p .1 .sendable))
 
