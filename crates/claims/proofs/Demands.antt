@@ -1,5 +1,5 @@
 -- Demands 2 and 3, from the theorems of each link.
-use Rattle.framing.specs.Claims as Claims
+use Rattle.framing.specs.Claims.{CallsTold}
 use Rattle.checksum.proofs.CheckValue.{crc16-detects, crc32-detects}
 use Rattle.framing.proofs.Lawful.{writes-frame}
 use Rattle.pcs.specs.Contract as PcsLink
@@ -24,8 +24,8 @@ demand2 expansion =
 pub demand3 : Demand3
 demand3 = record { calls = calls; mdu-check = crc16-detects; expansion-check = crc32-detects }
   where
-    calls : (w : Which) → Claims.Demand3 (linkOf w)
-    calls pcs = Pcs.demand3
-    calls mdu = Mdu.demand3
-    calls dle = Dle.demand3
-    calls expansion = Expansion.demand3
+    calls : (w : Which) → CallsTold (linkOf w)
+    calls pcs = Pcs.calls-told
+    calls mdu = Mdu.calls-told
+    calls dle = Dle.calls-told
+    calls expansion = Expansion.calls-told

@@ -1,5 +1,5 @@
 -- What is claimed of the DLE link.
-use Rattle.framing.specs.Claims.{ReadsBack, CallsReadBack, Canonical, CutAnywhere, Accounted, Demand3}
+use Rattle.framing.specs.Claims.{ReadsBack, CallsReadBack, Canonical, CutAnywhere, Accounted, CallsTold}
 use Rattle.framing.proofs.Lawful as of-lawful
 use Rattle.framing.proofs.Wire as Wire
 use Rattle.dle.specs.Contract.{link}
@@ -20,5 +20,5 @@ cut-anywhere = of-lawful.cut-anywhere link lawful
 pub accounted : Accounted link
 accounted = of-lawful.accounted link lawful
 
-pub demand3 : Demand3 link
-demand3 = of-lawful.demand3 link lawful
+pub calls-told : CallsTold link
+calls-told = Wire.calls-told link lawful

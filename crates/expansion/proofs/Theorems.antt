@@ -1,5 +1,5 @@
 -- What is claimed of the expansion link: the claims on every link, the bound on its frames, its check value, and what a wrong check value leaves.
-use Rattle.framing.specs.Claims.{ReadsBack, CallsReadBack, Canonical, CutAnywhere, Accounted, Demand3}
+use Rattle.framing.specs.Claims.{ReadsBack, CallsReadBack, Canonical, CutAnywhere, Accounted, CallsTold}
 use Rattle.framing.proofs.Lawful as any
 use Rattle.framing.proofs.Wire as Wire
 use Rattle.escape.proofs.Expansion.{expansion-bound}
@@ -26,8 +26,8 @@ cut-anywhere = any.cut-anywhere link lawful
 pub accounted : Accounted link
 accounted = any.accounted link lawful
 
-pub demand3 : Demand3 link
-demand3 = any.demand3 link lawful
+pub calls-told : CallsTold link
+calls-told = Wire.calls-told link lawful
 
 pub frame-bound : FrameBound
 frame-bound m h = expansion-bound (content m) (content-fits m h)

@@ -105,12 +105,12 @@ module _ {M : Type 0} (frame : M → List ℕ) (Sent : M → Type 0)
     ),
   )
 
--- demand 3, for any link whose frames are self-delimiting
-pub demand : {M : Type 0} (ok : M → Bool) (frame : M → List ℕ) (P : M → Type 0)
+-- two lists of calls, for any link whose frames are self-delimiting
+pub lists-told : {M : Type 0} (ok : M → Bool) (frame : M → List ℕ) (P : M → Type 0)
     → ((a b : M) (s t : List ℕ) → (ok a ≡ true) × P a → (ok b ≡ true) × P b → frame a ++ s ≡ frame b ++ t → a ≡ b) → ((a : M) → 0 < length (frame a))
     → (xs ys : List (Call M)) → AllOf (λ c. P (c .message)) xs → AllOf (λ c. P (c .message)) ys
     → ((wire (writes ok frame) xs ≡ wire (writes ok frame) ys) ↔ (kept (writes ok frame) xs ≡ kept (writes ok frame) ys))
     × (Begins (wire (writes ok frame) xs) (wire (writes ok frame) ys) ↔ Begins (kept (writes ok frame) xs) (kept (writes ok frame) ys))
-demand ok frame P delimited filled xs ys s t =
+lists-told ok frame P delimited filled xs ys s t =
     rw (wire-kept ok frame xs, wire-kept ok frame ys)
     (frames-iff frame (λ m. (ok m ≡ true) × P m) delimited filled (kept (writes ok frame) xs) (kept (writes ok frame) ys) (kept-all ok frame P xs s) (kept-all ok frame P ys t))

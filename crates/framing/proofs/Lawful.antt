@@ -17,11 +17,10 @@ use Rattle.framing.specs.Receiver.{Fed, stop, feed, events, last, drive,
 use Rattle.framing.specs.Segment.{Segment, noise, refused, accepted, Event, message, refusal, Config, step, eventOf, noiseAfter, wires}
 use Rattle.framing.specs.Writer.{writes}
 use Rattle.framing.specs.Link.{Link, Lent, stepOn, callOn, told, heardIn, called}
-use Rattle.framing.specs.Claims.{segments, openAt, WritesFrame, ReadsBack, Canonical, CutAnywhere, Accounted, Demand3}
+use Rattle.framing.specs.Claims.{segments, openAt, WritesFrame, ReadsBack, Canonical, CutAnywhere, Accounted}
 use Rattle.framing.proofs.Stored.{stored-done}
 use Rattle.framing.proofs.Cutting.{Follows, cutting, feed-from, feed-follows}
 use Rattle.framing.proofs.Segments.{wireOpt, Accepts, accepts-map, AllAccept, accept-at, wires-append, partition, all-accepted, phase-last, heard-events, noise-last}
-use Rattle.framing.proofs.Calls.{demand}
 use Rattle.framing.proofs.Byte.{Reached, Taken, Takes}
 
 abbrev pub at : {P : Type 0} → P → ℕ → Config P
@@ -274,15 +273,3 @@ module _ (L : Link) (laws : Lawful L) where
       e : feed (step (L .cut)) (at (L .hunting) (L .noise s)) (L .frame m ++ rest)
           ≡ record { event = some (message m); used = length (L .frame m); after = at (L .hunting) (L .noise s) }
       e = laws .reads-frame m rest (L .noise s) t o
-
-  -- frames that are read back say themselves where they end
-  delimited : (a b : L .Message) (s t : List ℕ) → (L .ok a ≡ true) × L .Typed a → (L .ok b ≡ true) × L .Typed b → L .frame a ++ s ≡ L .frame b ++ t → a ≡ b
-  delimited a b s t oa ob h =
-      let e : some (message a) ≡ some (message b) = sym (event a s oa) ∙ ap (λ (w : List ℕ). feed (step (L .cut)) (at (L .hunting) 0) w .event) h ∙ event b t ob in
-      cc
-    where
-      event : (m : L .Message) (rest : List ℕ) → (L .ok m ≡ true) × L .Typed m → feed (step (L .cut)) (at (L .hunting) 0) (L .frame m ++ rest) .event ≡ some (message m)
-      event m rest o = ap (λ (f : Fed (Event (L .Message)) (Config (L .Phase))). f .event) (laws .reads-frame m rest 0 (o .1) (o .0))
-
-  pub demand3 : Demand3 L
-  demand3 = demand (L .ok) (L .frame) (L .Typed) delimited (laws .frame-filled)

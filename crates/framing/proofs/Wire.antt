@@ -3,18 +3,19 @@ use Prim.Native.Nat.{ℕ}
 use mathlib.Core.Path.{_≡_, refl, ap, sym, _∙_, subst}
 use mathlib.Core.Bool.{true}
 use mathlib.Core.List.{List, [], _∷_, _++_, map}
+use mathlib.Core.Option.{some}
 use lib.ListN.{length}
 use lib.Dec.{lit<}
 use lib.Seq.{drop-append-seam}
 use Rattle.runs.specs.Runs.{Bytes}
 use Rattle.runs.proofs.Bytes.{bytes-append}
-use Rattle.framing.specs.Receiver.{events, last, drive, join}
+use Rattle.framing.specs.Receiver.{Fed, feed, events, last, drive, join}
 use Rattle.framing.specs.Segment.{Event, message, Config, step}
 use Rattle.framing.specs.Writer.{kept}
 use Rattle.framing.specs.Link.{Link, writeOn, called}
-use Rattle.framing.specs.Claims.{AllOf, CallsReadBack}
+use Rattle.framing.specs.Claims.{AllOf, CallsReadBack, CallsTold}
 use Rattle.framing.proofs.Feed.{events-feed, last-feed}
-use Rattle.framing.proofs.Calls.{frames, wire-kept, kept-all}
+use Rattle.framing.proofs.Calls.{frames, wire-kept, kept-all, lists-told}
 use Rattle.framing.proofs.Lawful.{Lawful, at, Counts, driven}
 
 module _ (L : Link) (laws : Lawful L) where
@@ -69,3 +70,15 @@ module _ (L : Link) (laws : Lawful L) where
 
       ends : last (step (L .cut)) first (join pieces) ≡ first
       ends = ap (last (step (L .cut)) first) whole ∙ k .1
+
+  -- frames that are read back say themselves where they end
+  delimited : (a b : L .Message) (s t : List ℕ) → Sent a → Sent b → L .frame a ++ s ≡ L .frame b ++ t → a ≡ b
+  delimited a b s t oa ob h =
+      let e : some (message a) ≡ some (message b) = sym (event a s oa) ∙ ap (λ (w : List ℕ). feed (step (L .cut)) first w .event) h ∙ event b t ob in
+      cc
+    where
+      event : (m : L .Message) (rest : List ℕ) → Sent m → feed (step (L .cut)) first (L .frame m ++ rest) .event ≡ some (message m)
+      event m rest o = ap (λ (f : Fed (Event (L .Message)) (Config (L .Phase))). f .event) (laws .reads-frame m rest 0 (o .1) (o .0))
+
+  pub calls-told : CallsTold L
+  calls-told = lists-told (L .ok) (L .frame) (L .Typed) delimited (laws .frame-filled)

@@ -86,10 +86,10 @@ module _ (L : Link) where
   abbrev pub Accounted : Type 0
   Accounted = (bs : List ℕ) → Bytes bs → wires (L .frame) (segments bs) ++ openAt bs ≡ bs
 
-  -- demand 3: of any two lists of calls the bytes are equal exactly when the kept messages are, and one's begin the other's exactly when its
+  -- calls told: of any two lists of calls the bytes are equal exactly when the kept messages are, and one's begin the other's exactly when its
   -- kept messages do
-  abbrev pub Demand3 : Type 0
-  Demand3 =
+  abbrev pub CallsTold : Type 0
+  CallsTold =
       (xs ys : List (Call (L .Message))) → AllOf (λ c. L .Typed (c .message)) xs → AllOf (λ c. L .Typed (c .message)) ys
       → ((wire (writeOn L) xs ≡ wire (writeOn L) ys) ↔ (kept (writeOn L) xs ≡ kept (writeOn L) ys))
       × (Begins (wire (writeOn L) xs) (wire (writeOn L) ys) ↔ Begins (kept (writeOn L) xs) (kept (writeOn L) ys))

@@ -1,5 +1,5 @@
 -- What is claimed of every link, for PCS.
-use Rattle.framing.specs.Claims.{ReadsBack, CallsReadBack, Canonical, CutAnywhere, Accounted, Demand3}
+use Rattle.framing.specs.Claims.{ReadsBack, CallsReadBack, Canonical, CutAnywhere, Accounted, CallsTold}
 use Rattle.framing.proofs.Lawful as Lawful
 use Rattle.framing.proofs.Wire as Wire
 use Rattle.pcs.specs.Contract.{link}
@@ -26,5 +26,5 @@ pub accounted : Accounted link
 accounted = Lawful.accounted link lawful
 
 -- of two lists of calls the bytes are equal, or begin one another, exactly when the kept messages do
-pub demand3 : Demand3 link
-demand3 = Lawful.demand3 link lawful
+pub calls-told : CallsTold link
+calls-told = Wire.calls-told link lawful
