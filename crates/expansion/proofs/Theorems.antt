@@ -6,7 +6,7 @@ use Rattle.escape.proofs.Expansion.{expansion-bound}
 use Rattle.checksum.specs.Claims.{Crc32Detects}
 use Rattle.checksum.proofs.CheckValue.{crc32-detects}
 use Rattle.expansion.specs.Contract.{link}
-use Rattle.expansion.specs.Claims.{FrameBound, RefusedHeader}
+use Rattle.expansion.specs.Claims.{FrameBound, RefusedHeader, RefusedAsSent}
 use Rattle.expansion.proofs.Judge.{content, content-fits}
 use Rattle.expansion.proofs.Lawful.{lawful}
 use Rattle.expansion.proofs.Refused as wrong
@@ -37,3 +37,6 @@ check-value = crc32-detects
 
 pub refused-header : RefusedHeader
 refused-header = wrong.refused-header
+
+pub refused-as-sent : RefusedAsSent
+refused-as-sent = wrong.refused-as-sent

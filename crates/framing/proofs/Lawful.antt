@@ -115,7 +115,7 @@ module _ (L : Link) (laws : Lawful L) where
     next : (b : ℕ) → b < 256
         → L .stateAfter (c .0) (L .cut (a .phase) b .0) (L .cut (a .phase) b .1) ≡ laws .stateOf (L .cut (a .phase) b .0) (noiseAfter (L .cut (a .phase) b .1) (a .noise))
     store : take (length (L .gathered (a .phase))) (c .1) ≡ L .gathered (a .phase)
-    room : L .size ≤ length (c .1)
+    pub room : L .size ≤ length (c .1)
     good : Good (a .phase)
 
   -- and count what is open, as they do from the first byte on
@@ -153,6 +153,11 @@ module _ (L : Link) (laws : Lawful L) where
             (good-next (a .phase) b y (r .good)) (laws .takes (a .phase) b y (r .good) .stands (c .1))
             (rw (over-length (L .front (a .phase) b) (c .1) (omega (arith, laws .takes (a .phase) b y (r .good) .fits, r .room))) (r .room)),
       )
+
+  -- any bytes
+  pub counts-last : (c : Lent L) (a : Config (L .Phase)) (bs : List ℕ) → Bytes bs → Counts c a → Counts (last (stepOn L) c bs) (last (step (L .cut)) a bs)
+  counts-last c a [] y r = r
+  counts-last c a (b ∷ bs) y r = counts-last (stepOn L c b .0) (step (L .cut) a b .0) bs (λ i. y (suc i)) (alike c a b (y 0) (r .stands) .1)
 
   -- one call
   follows : (c : Lent L) (a : Config (L .Phase)) (bs : List ℕ) → Bytes bs → Counts c a → Follows Counts (called L c bs) (feed (step (L .cut)) a bs)
