@@ -2,14 +2,16 @@
 use Prim.Native.Nat.{ℕ, _-_, _≤_}
 use mathlib.Core.Path.{_≡_}
 use mathlib.Core.Bool.{true}
-use mathlib.Core.List.{List}
+use mathlib.Core.List.{List, [], _∷_, _++_}
 use mathlib.Core.Option.{some}
 use lib.ListN.{length, take}
-use Rattle.framing.specs.Receiver.{last}
-use Rattle.framing.specs.Segment.{refusal}
-use Rattle.framing.specs.Link.{Lent, stepOn, callOn}
-use Rattle.expansion.specs.Frame.{Message, ok, frame}
-use Rattle.expansion.specs.Rules.{gathered}
+use Rattle.runs.specs.Runs.{Bytes}
+use Rattle.framing.specs.Receiver.{last, drive, join}
+use Rattle.framing.specs.Segment.{Segment, refused, refusal, wires}
+use Rattle.framing.specs.Link.{Lent, stepOn, callOn, called}
+use Rattle.framing.specs.Claims.{segments}
+use Rattle.expansion.specs.Frame.{Message, ok, enclose, frame}
+use Rattle.expansion.specs.Rules.{size, gathered}
 use Rattle.expansion.specs.Contract.{phaseOf, link}
 
 -- the longest frame has 2,066 bytes on the wire
@@ -31,3 +33,21 @@ pub record Stands (g store : List ℕ) : Type 0 where
 abbrev pub RefusedHeader : Type 0
 RefusedHeader =
     (c : Lent link) (piece : List ℕ) → callOn link c piece .event ≡ some (refusal 8) → Stands (gatheredBefore c piece) (callOn link c piece .after .1)
+
+-- the last segment of a stream is a frame refused with 8: on the wire it is g, hidden between the marks, and g stands at the start of the store
+pub record RefusedFrame (stream store g : List ℕ) : Type 0 where
+  pub before : List (Segment Message)
+  pub ends : segments link stream ≡ before ++ (refused 8 (enclose g) ∷ [])
+  pub wire : stream ≡ wires frame before ++ enclose g
+  pub stands : Stands g store
+
+-- what a fresh receiver, its store handed back untouched, has after a stream that comes in pieces
+abbrev pub afterStream : List (List ℕ) → List ℕ → Lent link
+afterStream pieces store = drive (called link) (link .fresh, store) pieces .1
+
+-- so a call of it that ends in 8, wherever the stream was cut, leaves the bytes of the refused frame in the store as they were sent
+abbrev pub RefusedAsSent : Type 0
+RefusedAsSent =
+    (pieces : List (List ℕ)) (piece store : List ℕ) → Bytes (join pieces ++ piece) → size ≤ length store
+    → callOn link (afterStream pieces store) piece .event ≡ some (refusal 8)
+    → (g : List ℕ) × RefusedFrame (join pieces ++ take (callOn link (afterStream pieces store) piece .used) piece) (callOn link (afterStream pieces store) piece .after .1) g

@@ -17,7 +17,7 @@ use Rattle.framing.specs.Writer.{Call, writes, keeps, leaves, kept, wire
 use Rattle.framing.specs.Claims.{AllOf}
 
 -- the frames of a list of messages, end to end
-abbrev frames : {M : Type 0} → (M → List ℕ) → List M → List ℕ
+abbrev pub frames : {M : Type 0} → (M → List ℕ) → List M → List ℕ
 frames frame [] = []
 frames frame (m ∷ ms) = frame m ++ frames frame ms
 
@@ -47,11 +47,11 @@ module _ {M : Type 0} (ok : M → Bool) (frame : M → List ℕ) where
       by-test (λ (w : Outcome ℕ × List ℕ). AllOf (λ m. (ok m ≡ true) × P m) (keeps m (w .0) ms)) (ok m)
       (λ e. stored-cases (frame m) memory (λ w. AllOf (λ m. (ok m ≡ true) × P m) (keeps m (w .0) ms)) (λ _. ((e, t), h)) h) (λ _. h)
 
-  wire-kept : (cs : List (Call M)) → wire (writes ok frame) cs ≡ frames frame (kept (writes ok frame) cs)
+  pub wire-kept : (cs : List (Call M)) → wire (writes ok frame) cs ≡ frames frame (kept (writes ok frame) cs)
   wire-kept [] = refl
   wire-kept (c ∷ cs) = wire-more (c .message) (c .memory) (wire (writes ok frame) cs) (kept (writes ok frame) cs) (wire-kept cs)
 
-  kept-all : (P : M → Type 0) (cs : List (Call M)) → AllOf (λ c. P (c .message)) cs → AllOf (λ m. (ok m ≡ true) × P m) (kept (writes ok frame) cs)
+  pub kept-all : (P : M → Type 0) (cs : List (Call M)) → AllOf (λ c. P (c .message)) cs → AllOf (λ m. (ok m ≡ true) × P m) (kept (writes ok frame) cs)
   kept-all P [] t = tt
   kept-all P (c ∷ cs) t = kept-more P (c .message) (c .memory) (kept (writes ok frame) cs) (t .0) (kept-all P cs (t .1))
 
@@ -105,12 +105,12 @@ module _ {M : Type 0} (frame : M → List ℕ) (Sent : M → Type 0)
     ),
   )
 
--- demand 3, for any link whose frames are self-delimiting
-pub demand : {M : Type 0} (ok : M → Bool) (frame : M → List ℕ) (P : M → Type 0)
+-- two lists of calls, for any link whose frames are self-delimiting
+pub lists-told : {M : Type 0} (ok : M → Bool) (frame : M → List ℕ) (P : M → Type 0)
     → ((a b : M) (s t : List ℕ) → (ok a ≡ true) × P a → (ok b ≡ true) × P b → frame a ++ s ≡ frame b ++ t → a ≡ b) → ((a : M) → 0 < length (frame a))
     → (xs ys : List (Call M)) → AllOf (λ c. P (c .message)) xs → AllOf (λ c. P (c .message)) ys
     → ((wire (writes ok frame) xs ≡ wire (writes ok frame) ys) ↔ (kept (writes ok frame) xs ≡ kept (writes ok frame) ys))
     × (Begins (wire (writes ok frame) xs) (wire (writes ok frame) ys) ↔ Begins (kept (writes ok frame) xs) (kept (writes ok frame) ys))
-demand ok frame P delimited filled xs ys s t =
+lists-told ok frame P delimited filled xs ys s t =
     rw (wire-kept ok frame xs, wire-kept ok frame ys)
     (frames-iff frame (λ m. (ok m ≡ true) × P m) delimited filled (kept (writes ok frame) xs) (kept (writes ok frame) ys) (kept-all ok frame P xs s) (kept-all ok frame P ys t))

@@ -17,11 +17,10 @@ use Rattle.framing.specs.Receiver.{Fed, stop, feed, events, last, drive,
 use Rattle.framing.specs.Segment.{Segment, noise, refused, accepted, Event, message, refusal, Config, step, eventOf, noiseAfter, wires}
 use Rattle.framing.specs.Writer.{writes}
 use Rattle.framing.specs.Link.{Link, Lent, stepOn, callOn, told, heardIn, called}
-use Rattle.framing.specs.Claims.{segments, openAt, WritesFrame, ReadsBack, Canonical, CutAnywhere, Accounted, Demand3}
+use Rattle.framing.specs.Claims.{segments, openAt, WritesFrame, ReadsBack, Canonical, CutAnywhere, Accounted}
 use Rattle.framing.proofs.Stored.{stored-done}
-use Rattle.framing.proofs.Cutting.{Follows, cutting, feed-follows}
+use Rattle.framing.proofs.Cutting.{Follows, cutting, feed-from, feed-follows}
 use Rattle.framing.proofs.Segments.{wireOpt, Accepts, accepts-map, AllAccept, accept-at, wires-append, partition, all-accepted, phase-last, heard-events, noise-last}
-use Rattle.framing.proofs.Calls.{demand}
 use Rattle.framing.proofs.Byte.{Reached, Taken, Takes}
 
 abbrev pub at : {P : Type 0} → P → ℕ → Config P
@@ -108,25 +107,28 @@ module _ (L : Link) (laws : Lawful L) where
   view-event c (some (refused n bs)) h = refl
   view-event c (some (accepted m)) h = ap (λ (x : L .Message). some (message x)) h
 
-  -- X is what is told of the state besides its phase and its noise
-  module _ (X : L .State → Config (L .Phase) → Type 0) (told-of : (p : L .Phase) (n : ℕ) → X (laws .stateOf p n) (at p n)) where
-    -- a state and a store stand for a phase and a noise count
-    record Stands (c : Lent L) (a : Config (L .Phase)) : Type 0 where
-      phase : L .phaseOf (c .0) (c .1) ≡ a .phase
-      known : L .known (c .0) ≡ true
-      noise : L .noise (c .0) ≡ a .noise
-      next : (b : ℕ) → b < 256
-          → L .stateAfter (c .0) (L .cut (a .phase) b .0) (L .cut (a .phase) b .1) ≡ laws .stateOf (L .cut (a .phase) b .0) (noiseAfter (L .cut (a .phase) b .1) (a .noise))
-      store : take (length (L .gathered (a .phase))) (c .1) ≡ L .gathered (a .phase)
-      room : L .size ≤ length (c .1)
-      good : Good (a .phase)
-      besides : X (c .0) a
+  -- a state and a store stand for a phase and a noise count
+  pub record Stands (c : Lent L) (a : Config (L .Phase)) : Type 0 where
+    pub phase : L .phaseOf (c .0) (c .1) ≡ a .phase
+    pub known : L .known (c .0) ≡ true
+    pub noise : L .noise (c .0) ≡ a .noise
+    next : (b : ℕ) → b < 256
+        → L .stateAfter (c .0) (L .cut (a .phase) b .0) (L .cut (a .phase) b .1) ≡ laws .stateOf (L .cut (a .phase) b .0) (noiseAfter (L .cut (a .phase) b .1) (a .noise))
+    store : take (length (L .gathered (a .phase))) (c .1) ≡ L .gathered (a .phase)
+    pub room : L .size ≤ length (c .1)
+    good : Good (a .phase)
 
-    stands-of : (p : L .Phase) (n : ℕ) (s : L .State) (store : List ℕ) → s ≡ laws .stateOf p n → Good p
-        → take (length (L .gathered p)) store ≡ L .gathered p → L .size ≤ length store → Stands (s, store) (at p n)
-    stands-of p n s store e g h r =
-        subst (λ (x : L .State). Stands (x, store) (at p n)) (sym e)
-        (record {
+  -- and count what is open, as they do from the first byte on
+  pub record Counts (c : Lent L) (a : Config (L .Phase)) : Type 0 where
+    pub stands : Stands c a
+    pub «open» : L .«open» (c .0) ≡ length (L .held (a .phase))
+
+  counts-of : (p : L .Phase) (n : ℕ) (s : L .State) (store : List ℕ) → s ≡ laws .stateOf p n → Good p
+      → take (length (L .gathered p)) store ≡ L .gathered p → L .size ≤ length store → Counts (s, store) (at p n)
+  counts-of p n s store e g h r =
+      subst (λ (x : L .State). Counts (x, store) (at p n)) (sym e)
+      (record {
+        stands = record {
           phase = laws .phase-of p n store g h;
           known = laws .known-of p n g;
           noise = laws .noise-of p n;
@@ -134,34 +136,48 @@ module _ (L : Link) (laws : Lawful L) where
           store = h;
           room = r;
           good = g;
-          besides = told-of p n;
-        })
+        };
+        «open» = laws .open-of p n;
+      })
 
-    -- one byte
-    alike : (c : Lent L) (a : Config (L .Phase)) (b : ℕ) → b < 256 → Stands c a
-        → (view (stepOn L c b .0) (stepOn L c b .1) ≡ step (L .cut) a b .1) × Stands (stepOn L c b .0) (step (L .cut) a b .0)
-    alike c a b y r =
-        subst
-        (λ (p : L .Phase). (heardIn L (over (L .front p b) (c .1)) (told L (eventOf (L .cut p b .1))) ≡ step (L .cut) a b .1)
-        × Stands (L .stateAfter (c .0) (L .cut p b .0) (L .cut p b .1), over (L .front p b) (c .1)) (step (L .cut) a b .0)) (sym (r .phase)) (
-          view-event (c .0, over (L .front (a .phase) b) (c .1)) (L .cut (a .phase) b .1) (accepted-is _ (a .phase) b y (r .good) (λ m t. t .read (c .1) (r .store))),
-          stands-of (L .cut (a .phase) b .0) (noiseAfter (L .cut (a .phase) b .1) (a .noise))
-              (L .stateAfter (c .0) (L .cut (a .phase) b .0) (L .cut (a .phase) b .1)) (over (L .front (a .phase) b) (c .1)) (r .next b y)
-              (good-next (a .phase) b y (r .good)) (laws .takes (a .phase) b y (r .good) .stands (c .1))
-              (rw (over-length (L .front (a .phase) b) (c .1) (omega (arith, laws .takes (a .phase) b y (r .good) .fits, r .room))) (r .room)),
-        )
+  -- one byte
+  alike : (c : Lent L) (a : Config (L .Phase)) (b : ℕ) → b < 256 → Stands c a
+      → (view (stepOn L c b .0) (stepOn L c b .1) ≡ step (L .cut) a b .1) × Counts (stepOn L c b .0) (step (L .cut) a b .0)
+  alike c a b y r =
+      subst
+      (λ (p : L .Phase). (heardIn L (over (L .front p b) (c .1)) (told L (eventOf (L .cut p b .1))) ≡ step (L .cut) a b .1)
+      × Counts (L .stateAfter (c .0) (L .cut p b .0) (L .cut p b .1), over (L .front p b) (c .1)) (step (L .cut) a b .0)) (sym (r .phase)) (
+        view-event (c .0, over (L .front (a .phase) b) (c .1)) (L .cut (a .phase) b .1) (accepted-is _ (a .phase) b y (r .good) (λ m t. t .read (c .1) (r .store))),
+        counts-of (L .cut (a .phase) b .0) (noiseAfter (L .cut (a .phase) b .1) (a .noise))
+            (L .stateAfter (c .0) (L .cut (a .phase) b .0) (L .cut (a .phase) b .1)) (over (L .front (a .phase) b) (c .1)) (r .next b y)
+            (good-next (a .phase) b y (r .good)) (laws .takes (a .phase) b y (r .good) .stands (c .1))
+            (rw (over-length (L .front (a .phase) b) (c .1) (omega (arith, laws .takes (a .phase) b y (r .good) .fits, r .room))) (r .room)),
+      )
 
-    -- one call
-    follows : (c : Lent L) (a : Config (L .Phase)) (bs : List ℕ) → Bytes bs → Stands c a → Follows Stands (called L c bs) (feed (step (L .cut)) a bs)
-    follows c a bs y r =
-        rw (r .known, le-leb (L .size) (length (c .1)) (r .room)) (feed-follows (stepOn L) view (step (L .cut)) Stands (λ _. refl) view-some alike c a bs y r)
+  -- any bytes
+  pub counts-last : (c : Lent L) (a : Config (L .Phase)) (bs : List ℕ) → Bytes bs → Counts c a → Counts (last (stepOn L) c bs) (last (step (L .cut)) a bs)
+  counts-last c a [] y r = r
+  counts-last c a (b ∷ bs) y r = counts-last (stepOn L c b .0) (step (L .cut) a b .0) bs (λ i. y (suc i)) (alike c a b (y 0) (r .stands) .1)
 
-    -- the same of the events themselves, as they are before they are told
-    follows-untold : (c : Lent L) (a : Config (L .Phase)) (bs : List ℕ) → Bytes bs → Stands c a → Follows Stands (callOn L c bs) (feed (step (L .cut)) a bs)
-    follows-untold c a bs y r =
-        rw (r .known, le-leb (L .size) (length (c .1)) (r .room))
-        (feed-follows (stepOn L) (λ _ o. o) (step (L .cut)) Stands (λ _. refl) (λ _ e. (e, refl))
-        (λ c a b y r. (ap (λ (p : L .Phase). eventOf (L .cut p b .1)) (r .phase), alike c a b y r .1)) c a bs y r)
+  -- one call
+  follows : (c : Lent L) (a : Config (L .Phase)) (bs : List ℕ) → Bytes bs → Counts c a → Follows Counts (called L c bs) (feed (step (L .cut)) a bs)
+  follows c a bs y r =
+      rw (r .stands .known, le-leb (L .size) (length (c .1)) (r .stands .room))
+      (feed-follows (stepOn L) view (step (L .cut)) Counts (λ _. refl) view-some (λ c a b y r. alike c a b y (r .stands)) c a bs y r)
+
+  -- the same of at least a byte, where `open` holds anything at first
+  follows-from : (c : Lent L) (a : Config (L .Phase)) (bs : List ℕ) → 0 < length bs → Bytes bs → Stands c a → Follows Counts (called L c bs) (feed (step (L .cut)) a bs)
+  follows-from c a [] h y r = absurd (omega arith)
+  follows-from c a (b ∷ bs) h y r =
+      rw (r .known, le-leb (L .size) (length (c .1)) (r .room))
+      (feed-from (stepOn L) view (step (L .cut)) Counts (λ _. refl) view-some (λ c a b y r. alike c a b y (r .stands)) c a b bs y (alike c a b (y 0) r))
+
+  -- and of the events themselves, as they are before they are told
+  follows-untold : (c : Lent L) (a : Config (L .Phase)) (bs : List ℕ) → Bytes bs → Counts c a → Follows Counts (callOn L c bs) (feed (step (L .cut)) a bs)
+  follows-untold c a bs y r =
+      rw (r .stands .known, le-leb (L .size) (length (c .1)) (r .stands .room))
+      (feed-follows (stepOn L) (λ _ o. o) (step (L .cut)) Counts (λ _. refl) (λ _ e. (e, refl))
+      (λ c a b y r. (ap (λ (p : L .Phase). eventOf (L .cut p b .1)) (r .stands .phase), alike c a b y (r .stands) .1)) c a bs y r)
 
   -- a call that gives a message leaves nothing open
   closes : (p : L .Phase) (n : ℕ) (bs : List ℕ) (m : L .Message) → Bytes bs → Good p → feed (step (L .cut)) (at p n) bs .event ≡ some (message m)
@@ -189,60 +205,60 @@ module _ (L : Link) (laws : Lawful L) where
       → L .held (feed (step (L .cut)) (at (L .hunting) 0) bs .after .phase) ≡ []
   last-closed bs m y e = ap (L .held) (closes (L .hunting) 0 bs m y (laws .reached .good-first) e) ∙ laws .reached .held-first
 
-  -- nothing is told besides
-  abbrev Any : L .State → Config (L .Phase) → Type 0
-  Any s a = Unit
+  counts-fresh : (store : List ℕ) → L .size ≤ length store → Counts (L .fresh, store) (at (L .hunting) 0)
+  counts-fresh store room = counts-of (L .hunting) 0 (L .fresh) store (laws .fresh-first) (laws .reached .good-first) (rw (laws .reached .gathered-first)) room
 
   -- a call with a fresh state is a call by the rules, also as its caller has it
   module _ (store bs : List ℕ) (y : Bytes bs) (room : L .size ≤ length store) where
-    stands-fresh : Stands Any (λ _ _. tt) (L .fresh, store) (at (L .hunting) 0)
-    stands-fresh = stands-of Any (λ _ _. tt) (L .hunting) 0 (L .fresh) store (laws .fresh-first) (laws .reached .good-first) (rw (laws .reached .gathered-first)) room
-
     pub fresh-follows : (callOn L (L .fresh, store) bs .event ≡ feed (step (L .cut)) (at (L .hunting) 0) bs .event)
         × (callOn L (L .fresh, store) bs .used ≡ feed (step (L .cut)) (at (L .hunting) 0) bs .used)
         × (L .noise (callOn L (L .fresh, store) bs .after .0) ≡ feed (step (L .cut)) (at (L .hunting) 0) bs .after .noise)
     fresh-follows =
-        let f = follows-untold Any (λ _ _. tt) (L .fresh, store) (at (L .hunting) 0) bs y stands-fresh in
-        (f .event, f .used, f .after .noise)
+        let f = follows-untold (L .fresh, store) (at (L .hunting) 0) bs y (counts-fresh store room) in
+        (f .event, f .used, f .after .stands .noise)
 
     pub fresh-called : called L (L .fresh, store) bs .event ≡ feed (step (L .cut)) (at (L .hunting) 0) bs .event
-    fresh-called = follows Any (λ _ _. tt) (L .fresh, store) (at (L .hunting) 0) bs y stands-fresh .event
+    fresh-called = follows (L .fresh, store) (at (L .hunting) 0) bs y (counts-fresh store room) .event
+
+  -- a stream in pieces, as a caller with a fresh state drives it, is the uncut stream by the rules
+  pub driven : (pieces : List (List ℕ)) (store : List ℕ) → Bytes (join pieces) → L .size ≤ length store
+      → (drive (called L) (L .fresh, store) pieces .0 ≡ events (step (L .cut)) (at (L .hunting) 0) (join pieces))
+      × Counts (drive (called L) (L .fresh, store) pieces .1) (last (step (L .cut)) (at (L .hunting) 0) (join pieces))
+  driven pieces store y room = cutting (called L) (step (L .cut)) Counts follows (L .fresh, store) (at (L .hunting) 0) pieces y (counts-fresh store room)
 
   pub cut-anywhere : CutAnywhere L
   cut-anywhere pieces store y room =
+      let r = driven pieces store y room in
       record {
         hears = r .0 ∙ heard-events (L .cut) (at (L .hunting) 0) (join pieces);
-        noise = r .1 .noise ∙ noise-last (L .cut) (at (L .hunting) 0) (join pieces) (omega arith) ∙ rw zero-add;
-        «open» = r .1 .besides ∙ ap (λ (p : L .Phase). length (L .held p)) (phase-last (L .cut) (at (L .hunting) 0) (join pieces));
+        noise = r .1 .stands .noise ∙ noise-last (L .cut) (at (L .hunting) 0) (join pieces) (omega arith) ∙ rw zero-add;
+        «open» = r .1 .«open» ∙ ap (λ (p : L .Phase). length (L .held p)) (phase-last (L .cut) (at (L .hunting) 0) (join pieces));
       }
-    where
-      Counts : L .State → Config (L .Phase) → Type 0
-      Counts s a = L .«open» s ≡ length (L .held (a .phase))
-
-      r : (drive (called L) (L .fresh, store) pieces .0 ≡ events (step (L .cut)) (at (L .hunting) 0) (join pieces))
-          × Stands Counts (laws .open-of) (drive (called L) (L .fresh, store) pieces .1) (last (step (L .cut)) (at (L .hunting) 0) (join pieces))
-      r =
-          cutting (called L) (step (L .cut)) (Stands Counts (laws .open-of)) (follows Counts (laws .open-of)) (L .fresh, store) (at (L .hunting) 0) pieces y
-          (stands-of Counts (laws .open-of) (L .hunting) 0 (L .fresh) store (laws .fresh-first) (laws .reached .good-first) (rw (laws .reached .gathered-first)) room)
 
   pub reads-back : ReadsBack L
   reads-back m memory rest s store t o h y k p room =
       record {
         answers = ap (λ (w : Outcome ℕ × List ℕ). w .0) (written-frame L m memory o h);
-        hears = ap (λ (f : Heard). f .event) same ∙ f .event ∙ ap (λ (f : Fed (Event (L .Message)) (Config (L .Phase))). f .event) e;
-        uses = ap (λ (f : Heard). f .used) same ∙ f .used ∙ ap (λ (f : Fed (Event (L .Message)) (Config (L .Phase))). f .used) e;
-        quiet = ap (λ (f : Heard). L .noise (f .after .0)) same ∙ f .after .noise ∙ ap (λ (f : Fed (Event (L .Message)) (Config (L .Phase))). f .after .noise) e;
+        hears = ap (λ (f : Heard). f .event) same ∙ f .event ∙ ap (λ (f : Ruled). f .event) e;
+        uses = ap (λ (f : Heard). f .used) same ∙ f .used ∙ ap (λ (f : Ruled). f .used) e;
+        quiet = ap (λ (f : Heard). L .noise (f .after .0)) same ∙ f .after .stands .noise ∙ ap (λ (f : Ruled). f .after .noise) e;
+        known = ap (λ (f : Heard). L .known (f .after .0)) same ∙ f .after .stands .known;
+        hunts = ap (λ (f : Heard). L .phaseOf (f .after .0) (f .after .1)) same ∙ f .after .stands .phase ∙ ap (λ (f : Ruled). f .after .phase) e;
+        closed = ap (λ (f : Heard). L .«open» (f .after .0)) same ∙ f .after .«open» ∙ ap (λ (f : Ruled). length (L .held (f .after .phase))) e ∙ ap length (laws .reached .held-first);
       }
     where
       Heard : Type 0
       Heard = Fed (Event (L .Message)) (Lent L)
+
+      Ruled : Type 0
+      Ruled = Fed (Event (L .Message)) (Config (L .Phase))
 
       same : called L (s, store) (take (length (L .frame m)) (writes (L .ok) (L .frame) m memory .1) ++ rest) ≡ called L (s, store) (L .frame m ++ rest)
       same =
           ap (λ (w : List ℕ). called L (s, store) (w ++ rest))
           (ap (λ (w : Outcome ℕ × List ℕ). take (length (L .frame m)) (w .1)) (written-frame L m memory o h) ∙ part-sets memory 0 (L .frame m) (omega arith))
 
-      stands : Stands Any (λ _ _. tt) (s, store) (at (L .hunting) (L .noise s))
+      stands : Stands (s, store) (at (L .hunting) (L .noise s))
       stands =
           record {
             phase = p;
@@ -252,24 +268,13 @@ module _ (L : Link) (laws : Lawful L) where
             store = rw (laws .reached .gathered-first);
             room = room;
             good = laws .reached .good-first;
-            besides = tt;
           }
 
-      f : Follows (Stands Any (λ _ _. tt)) (called L (s, store) (L .frame m ++ rest)) (feed (step (L .cut)) (at (L .hunting) (L .noise s)) (L .frame m ++ rest))
-      f = follows Any (λ _ _. tt) (s, store) (at (L .hunting) (L .noise s)) (L .frame m ++ rest) (bytes-append (L .frame m) rest (laws .frame-bytes m t o) y) stands
+      f : Follows Counts (called L (s, store) (L .frame m ++ rest)) (feed (step (L .cut)) (at (L .hunting) (L .noise s)) (L .frame m ++ rest))
+      f =
+          follows-from (s, store) (at (L .hunting) (L .noise s)) (L .frame m ++ rest) (omega (arith, laws .frame-filled m, length-append (L .frame m) rest))
+          (bytes-append (L .frame m) rest (laws .frame-bytes m t o) y) stands
 
       e : feed (step (L .cut)) (at (L .hunting) (L .noise s)) (L .frame m ++ rest)
           ≡ record { event = some (message m); used = length (L .frame m); after = at (L .hunting) (L .noise s) }
       e = laws .reads-frame m rest (L .noise s) t o
-
-  -- frames that are read back say themselves where they end
-  delimited : (a b : L .Message) (s t : List ℕ) → (L .ok a ≡ true) × L .Typed a → (L .ok b ≡ true) × L .Typed b → L .frame a ++ s ≡ L .frame b ++ t → a ≡ b
-  delimited a b s t oa ob h =
-      let e : some (message a) ≡ some (message b) = sym (event a s oa) ∙ ap (λ (w : List ℕ). feed (step (L .cut)) (at (L .hunting) 0) w .event) h ∙ event b t ob in
-      cc
-    where
-      event : (m : L .Message) (rest : List ℕ) → (L .ok m ≡ true) × L .Typed m → feed (step (L .cut)) (at (L .hunting) 0) (L .frame m ++ rest) .event ≡ some (message m)
-      event m rest o = ap (λ (f : Fed (Event (L .Message)) (Config (L .Phase))). f .event) (laws .reads-frame m rest 0 (o .1) (o .0))
-
-  pub demand3 : Demand3 L
-  demand3 = demand (L .ok) (L .frame) (L .Typed) delimited (laws .frame-filled)

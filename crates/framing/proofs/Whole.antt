@@ -10,11 +10,11 @@ use lib.Seq.{drop-length}
 use lib.Dec.{ltb, eqb}
 use borrow.Author.Tests.{ltb-true, eqb-true, lt-ltb, eq-eqb}
 use Rattle.runs.specs.Runs.{Bytes}
-use Rattle.runs.proofs.Cases.{and-both}
+use Rattle.runs.proofs.Cases.{by-test, by-leb, and-both}
 use Rattle.framing.specs.Answer.{done}
 use Rattle.framing.specs.Receiver.{Fed, feed, last}
 use Rattle.framing.specs.Segment.{Segment, noise, refused, accepted, Event, message, refusal, Config, step, wires, heard, noiseOf}
-use Rattle.framing.specs.Link.{Link, told, heardIn}
+use Rattle.framing.specs.Link.{Link, Lent, told, heardIn}
 use Rattle.framing.specs.Claims.{segments, openAt}
 use Rattle.framing.specs.Whole.{settle, exactly, readOn, OnlyFrames, FramesRead}
 use Rattle.framing.proofs.Feed.{events-feed, last-feed}
@@ -107,8 +107,17 @@ module _ (L : Link) (laws : Lawful L) where
   settle-done false (some (message m)) v h = differ (cc)
   settle-done true (some (message m)) v h = (refl, m, refl, cc)
 
+  -- a store that is too short gives no message
+  has-room : (run store : List ℕ) (v : L .Numbers) → readOn L run store .0 ≡ done v → L .size ≤ length store
+  has-room run store v =
+      by-test Roomy (L .known (L .fresh)) (λ _. by-leb Roomy (L .size) (length store) (λ l _. l) (λ _ h. differ (cc))) (λ _ h. differ (cc))
+    where
+      Roomy : Fed (Event (L .Message)) (Lent L) → Type 0
+      Roomy f = settle (exactly (length run) (f .used) (L .noise (f .after .0))) (told L (f .event)) ≡ done v → L .size ≤ length store
+
   pub only-frames : OnlyFrames L
-  only-frames run store v y room h =
+  only-frames run store v y h =
+      let room = has-room run store v h in
       let (t, m, e, n) = settle-done _ (rules run .event) v (sym (by-rules run store y room) ∙ h) in
       let s = and-both (ltb (length run) (2 ^ 32)) _ t in
       let l = and-both (eqb (rules run .used) (length run)) _ (s .1) in

@@ -3,7 +3,7 @@ use Prim.Native.Nat.{ℕ, _%_, _^_, _≤_}
 use mathlib.Core.Path.{_≡_}
 use mathlib.Core.Logic.{_↔_}
 use mathlib.Core.Bool.{true}
-use mathlib.Core.List.{List, [], _∷_, _++_}
+use mathlib.Core.List.{List, [], _∷_, _++_, map}
 use mathlib.Core.Option.{some}
 use lib.ListN.{length, take}
 use Rattle.runs.specs.Runs.{Bytes, over, Begins}
@@ -37,17 +37,34 @@ module _ (L : Link) where
   sentTo c m memory rest = called L c (take (length (L .frame m)) (writeOn L m memory .1) ++ rest)
 
   -- reads back: a message that may be sent, written into memory that holds its frame, is handed out by a receiver in plain hunting that is fed
-  -- the bytes so written and then anything; exactly the frame is used, and there is no noise
+  -- the bytes so written and then anything; exactly the frame is used, there is no noise, and the receiver hunts again with nothing open
   pub record ReadBack (m : L .Message) (memory rest : List ℕ) (s : L .State) (store : List ℕ) : Type 0 where
     pub answers : writeOn L m memory .0 ≡ done (length (L .frame m))
     pub hears : sentTo (s, store) m memory rest .event ≡ some (message m)
     pub uses : sentTo (s, store) m memory rest .used ≡ length (L .frame m)
     pub quiet : L .noise (sentTo (s, store) m memory rest .after .0) ≡ L .noise s
+    pub known : L .known (sentTo (s, store) m memory rest .after .0) ≡ true
+    pub hunts : L .phaseOf (sentTo (s, store) m memory rest .after .0) (sentTo (s, store) m memory rest .after .1) ≡ L .hunting
+    pub closed : L .«open» (sentTo (s, store) m memory rest .after .0) ≡ 0
 
   abbrev pub ReadsBack : Type 0
   ReadsBack =
       (m : L .Message) (memory rest : List ℕ) (s : L .State) (store : List ℕ) → L .Typed m → L .ok m ≡ true → length (L .frame m) ≤ length memory
       → Bytes rest → L .known s ≡ true → L .phaseOf s store ≡ L .hunting → L .size ≤ length store → ReadBack m memory rest s store
+
+  -- calls read back: of the bytes that any calls of the writer leave, refused ones and none at all included, cut anywhere, a fresh receiver, its
+  -- store handed back untouched, hands out exactly the kept messages, in order; nothing is noise, and it hunts with nothing open
+  pub record CallsBack (calls : List (Call (L .Message))) (pieces : List (List ℕ)) (store : List ℕ) : Type 0 where
+    pub hears : drive (called L) (L .fresh, store) pieces .0 ≡ map message (kept (writeOn L) calls)
+    pub noise : L .noise (drive (called L) (L .fresh, store) pieces .1 .0) ≡ 0
+    pub known : L .known (drive (called L) (L .fresh, store) pieces .1 .0) ≡ true
+    pub hunts : L .phaseOf (drive (called L) (L .fresh, store) pieces .1 .0) (drive (called L) (L .fresh, store) pieces .1 .1) ≡ L .hunting
+    pub «open» : L .«open» (drive (called L) (L .fresh, store) pieces .1 .0) ≡ 0
+
+  abbrev pub CallsReadBack : Type 0
+  CallsReadBack =
+      (calls : List (Call (L .Message))) (pieces : List (List ℕ)) (store : List ℕ) → AllOf (λ c. L .Typed (c .message)) calls
+      → join pieces ≡ wire (writeOn L) calls → L .size ≤ length store → CallsBack calls pieces store
 
   -- canonical: a message is accepted only where the stream holds exactly its frame, and only one that may be sent
   abbrev pub Canonical : Type 0
@@ -69,10 +86,10 @@ module _ (L : Link) where
   abbrev pub Accounted : Type 0
   Accounted = (bs : List ℕ) → Bytes bs → wires (L .frame) (segments bs) ++ openAt bs ≡ bs
 
-  -- demand 3: of any two lists of calls the bytes are equal exactly when the kept messages are, and one's begin the other's exactly when its
+  -- calls told: of any two lists of calls the bytes are equal exactly when the kept messages are, and one's begin the other's exactly when its
   -- kept messages do
-  abbrev pub Demand3 : Type 0
-  Demand3 =
+  abbrev pub CallsTold : Type 0
+  CallsTold =
       (xs ys : List (Call (L .Message))) → AllOf (λ c. L .Typed (c .message)) xs → AllOf (λ c. L .Typed (c .message)) ys
       → ((wire (writeOn L) xs ≡ wire (writeOn L) ys) ↔ (kept (writeOn L) xs ≡ kept (writeOn L) ys))
       × (Begins (wire (writeOn L) xs) (wire (writeOn L) ys) ↔ Begins (kept (writeOn L) xs) (kept (writeOn L) ys))

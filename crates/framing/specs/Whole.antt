@@ -36,8 +36,7 @@ module _ (L : Link) where
   -- only a frame is read as a message
   abbrev pub OnlyFrames : Type 0
   OnlyFrames =
-      (run store : List ℕ) (v : L .Numbers) → Bytes run → L .size ≤ length store → readOn run store .0 ≡ done v
-      → (m : L .Message) × Means m run store v
+      (run store : List ℕ) (v : L .Numbers) → Bytes run → readOn run store .0 ≡ done v → (m : L .Message) × Means m run store v
 
   -- and each frame is read as its message
   abbrev pub FramesRead : Type 0

@@ -16,12 +16,12 @@ use Rattle.framing.specs.Link.{nothing, numbers, number, told, answer}
 use Rattle.framing.specs.Claims.{AllOf}
 use Rattle.expansion.specs.Frame as Frame
 use Rattle.expansion.specs.Contract.{link}
-use Rattle.expansion.specs.Claims.{gatheredBefore}
-use Rattle.expansion.proofs.Theorems.{refused-header}
+use Rattle.expansion.specs.Claims.{gatheredBefore, Stands, afterStream}
+use Rattle.expansion.proofs.Theorems.{refused-header, refused-as-sent}
 use Rattle.gate.specs.Asking.{start, freshExchange, known, since, sends, ended}
 use Rattle.gate.specs.Asking as Asking
-use Rattle.gate.specs.Answering.{Answered}
-use Rattle.gate.specs.Claims.{after, requests, starts, RepeatAtMost3, FourSends, IdsGoRound, OtherIdChangesNothing, WaitOverIff, Sendable, ReplySendable, CheckErrorAsGathered}
+use Rattle.gate.specs.Answering.{Answering, Answered, reply, answers}
+use Rattle.gate.specs.Claims.{after, requests, starts, RepeatAtMost3, FourSends, IdsGoRound, OtherIdChangesNothing, WaitOverIff, Sendable, ReplySendable, CheckErrorAsGathered, CheckErrorAsSent}
 use Rattle.gate.proofs.Steps.{next, by-step, left-le, sends-left, ids}
 use Rattle.gate.proofs.Sendable.{sendable}
 
@@ -71,12 +71,21 @@ told-8 none h = let z : _≡_ {A = ℕ} 0 1 = cc in absurd (omega arith)
 told-8 (some (message m)) h = let z : _≡_ {A = ℕ} 0 1 = cc in absurd (omega arith)
 told-8 (some (refusal n)) h = let e : n ≡ 8 = cc in cc
 
-pub check-error-as-gathered : CheckErrorAsGathered
-check-error-as-gathered head a c piece h =
-    let r = refused-header c piece (told-8 _ h) in
-    let g = gatheredBefore c piece in
-    let store = answer link c piece .2 .1 in
+-- what the answering end makes of 8 where gathered bytes stand at the start of the store
+replied : (head : Bool) (a : Answering) (g store : List ℕ) → Stands g store
+    → answers head a (number 8) store ≡ record { reply = some (reply head 2 (getD g 0 0) (getD g 3 0)); handsOut = false; after = a }
+replied head a g store r =
     let room : 4 ≤ length store = omega (arith, r .long, sym (length-take (length g) store) ∙ ap length (r .here)) in
     let here : (i : ℕ) → i < 8 → getD store i 0 ≡ getD g i 0 =
     λ i l. sym (getD-take (length g) store i 0 (omega (arith, r .long))) ∙ ap (λ (x : List ℕ). getD x i 0) (r .here) in
-    (r .long, rw (h, le-leb 4 (length store) room, here 0 (lit< tt), here 3 (lit< tt)))
+    rw (le-leb 4 (length store) room, here 0 (lit< tt), here 3 (lit< tt))
+
+pub check-error-as-gathered : CheckErrorAsGathered
+check-error-as-gathered head a c piece h =
+    let r = refused-header c piece (told-8 _ h) in
+    (r .long, rw h (replied head a (gatheredBefore c piece) (answer link c piece .2 .1) r))
+
+pub check-error-as-sent : CheckErrorAsSent
+check-error-as-sent head a pieces piece store y room h =
+    let (g, r) = refused-as-sent pieces piece store y room (told-8 _ h) in
+    (g, r, rw h (replied head a g (answer link (afterStream pieces store) piece .2 .1) (r .stands)))

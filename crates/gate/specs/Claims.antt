@@ -3,17 +3,19 @@ use Prim.Native.Nat.{ℕ, _+_, _%_, _^_, _≤_, _<_}
 use mathlib.Core.Path.{_≡_}
 use mathlib.Core.Logic.{_↔_}
 use mathlib.Core.Bool.{Bool, true, false, cond}
-use mathlib.Core.List.{List, [], _∷_}
+use mathlib.Core.List.{List, [], _∷_, _++_}
 use mathlib.Core.Option.{Option, none, some, Option·map}
-use lib.ListN.{length, getD}
+use lib.ListN.{length, getD, take}
+use Rattle.runs.specs.Runs.{Bytes}
 use Rattle.framing.specs.Answer.{refused}
-use Rattle.framing.specs.Receiver.{emit}
+use Rattle.framing.specs.Receiver.{emit, join}
 use Rattle.framing.specs.Link.{Lent, Told, number, writeOn, answer}
 use Rattle.framing.specs.Claims.{AllOf}
 use Rattle.expansion.specs.Frame.{ok, frame}
 use Rattle.expansion.specs.Frame as Frame
+use Rattle.expansion.specs.Rules.{size}
 use Rattle.expansion.specs.Contract.{link}
-use Rattle.expansion.specs.Claims.{gatheredBefore}
+use Rattle.expansion.specs.Claims.{gatheredBefore, RefusedFrame, afterStream}
 use Rattle.expansion.specs.declared.Message.{Message}
 use Rattle.gate.specs.Asking.{Exchange, Step, start, tick, arrival, Asked, send, done, gaveUp, nothing, freshExchange, known, waitOver, asks}
 use Rattle.gate.specs.Asking as Asking
@@ -89,3 +91,13 @@ CheckErrorAsGathered =
     → (8 ≤ length (gatheredBefore c piece))
     × (answers head a (answer link c piece .0) (answer link c piece .2 .1)
     ≡ record { reply = some (reply head 2 (getD (gatheredBefore c piece) 0 0) (getD (gatheredBefore c piece) 3 0)); handsOut = false; after = a })
+
+-- in a stream, cut anywhere, that a fresh receiver reads, they are the id and the address that the refused frame has on the wire
+abbrev pub CheckErrorAsSent : Type 0
+CheckErrorAsSent =
+    (head : Bool) (a : Answering) (pieces : List (List ℕ)) (piece store : List ℕ) → Bytes (join pieces ++ piece) → size ≤ length store
+    → answer link (afterStream pieces store) piece .0 ≡ number 8
+    → (g : List ℕ)
+    × RefusedFrame (join pieces ++ take (answer link (afterStream pieces store) piece .1) piece) (answer link (afterStream pieces store) piece .2 .1) g
+    × (answers head a (answer link (afterStream pieces store) piece .0) (answer link (afterStream pieces store) piece .2 .1)
+    ≡ record { reply = some (reply head 2 (getD g 0 0) (getD g 3 0)); handsOut = false; after = a })

@@ -1,31 +1,16 @@
 -- What the accessors tell of a message that was read, over any link.
-use Prim.Native.Nat.{ℕ, _^_, _≤_, _<_}
+use Prim.Native.Nat.{ℕ, _^_, _<_}
 use mathlib.Core.Path.{_≡_, sym, ap, _∙_, subst}
 use mathlib.Core.Bool.{true}
 use mathlib.Core.List.{List}
-use native.Mathlib.Omega.{arith}
-use lib.ListN.{length, getD}
+use lib.ListN.{getD}
 use Rattle.runs.specs.Runs.{Bytes}
-use Rattle.runs.proofs.Cases.{by-test, by-leb}
-use Rattle.framing.specs.Answer.{Outcome, done}
-use Rattle.framing.specs.Receiver.{Fed}
-use Rattle.framing.specs.Segment.{Event}
-use Rattle.framing.specs.Link.{Link, Lent, told}
-use Rattle.framing.specs.Whole.{settle, exactly, readOn, OnlyFrames}
+use Rattle.framing.specs.Answer.{Outcome}
+use Rattle.framing.specs.Link.{Link, told}
+use Rattle.framing.specs.Whole.{OnlyFrames}
 use Rattle.host.specs.Read.{packed, encode, lengthOf, kindOf, fieldOf}
 use Rattle.host.specs.Claims.{PartTold}
 use Rattle.host.proofs.Packed.{packed-size, packed-kind, packed-field}
-
--- a message is told only out of a store that is long enough
-room : (L : Link) (run store : List ℕ) (v : L .Numbers) → readOn L run store .0 ≡ done v → L .size ≤ length store
-room L run store v =
-    by-test P (L .known (L .fresh)) (λ _. by-leb P (L .size) (length store) (λ h _. h) (λ _ e. differ (cc))) (λ _ e. differ (cc))
-  where
-    P : Fed (Event (L .Message)) (Lent L) → Type 0
-    P f = settle (exactly (length run) (f .used) (L .noise (f .after .0))) (told L (f .event)) ≡ done v → L .size ≤ length store
-
-    differ : _≡_ {A = ℕ} 0 1 → L .size ≤ length store
-    differ e = absurd (omega arith)
 
 -- the number of a message packs a size of 12 bits, a kind of two, and fields that are bytes
 pub record Packs {N : Type 0} (code size kind : N → ℕ) (fields : N → List ℕ) (v : N) : Type 0 where
@@ -40,7 +25,7 @@ module _ (L : Link) (only : OnlyFrames L) {code size kind : L .Numbers → ℕ} 
   part-told : (accessor : ℕ → ℕ) (part : L .Numbers → ℕ)
       → ((v : L .Numbers) → Packs code size kind fields v → accessor (packed (size v) (kind v) (fields v)) ≡ part v) → PartTold L code accessor part
   part-told accessor part tells run store v y h =
-      let p = only run store v y (room L run store v h) h in
+      let p = only run store v y h in
       let k = subst (Packs code size kind fields) (sym (p .1 .told)) (packs (p .0) (p .1 .sendable) (subst Bytes (p .1 .framed) y)) in
       ap (λ (o : Outcome (L .Numbers)). accessor (encode code o)) h ∙ ap accessor (k .number) ∙ tells v k
 

@@ -1,6 +1,7 @@
 -- What is claimed of every link, for MDU; and what its check value detects.
-use Rattle.framing.specs.Claims.{ReadsBack, Canonical, CutAnywhere, Accounted, Demand3}
+use Rattle.framing.specs.Claims.{ReadsBack, CallsReadBack, Canonical, CutAnywhere, Accounted, CallsTold}
 use Rattle.framing.proofs.Lawful as Any
+use Rattle.framing.proofs.Wire as Wire
 use Rattle.checksum.specs.Claims.{Crc16Detects}
 use Rattle.checksum.proofs.CheckValue.{crc16-detects}
 use Rattle.mdu.specs.Contract.{link}
@@ -8,6 +9,9 @@ use Rattle.mdu.proofs.Lawful.{lawful}
 
 pub reads-back : ReadsBack link
 reads-back = Any.reads-back link lawful
+
+pub calls-read-back : CallsReadBack link
+calls-read-back = Wire.calls-read-back link lawful
 
 pub canonical : Canonical link
 canonical = Any.canonical link lawful
@@ -18,8 +22,8 @@ cut-anywhere = Any.cut-anywhere link lawful
 pub accounted : Accounted link
 accounted = Any.accounted link lawful
 
-pub demand3 : Demand3 link
-demand3 = Any.demand3 link lawful
+pub calls-told : CallsTold link
+calls-told = Wire.calls-told link lawful
 
 pub check-value : Crc16Detects
 check-value = crc16-detects

@@ -1,12 +1,17 @@
 -- What is claimed of every link, for PCS.
-use Rattle.framing.specs.Claims.{ReadsBack, Canonical, CutAnywhere, Accounted, Demand3}
+use Rattle.framing.specs.Claims.{ReadsBack, CallsReadBack, Canonical, CutAnywhere, Accounted, CallsTold}
 use Rattle.framing.proofs.Lawful as Lawful
+use Rattle.framing.proofs.Wire as Wire
 use Rattle.pcs.specs.Contract.{link}
 use Rattle.pcs.proofs.Lawful.{lawful}
 
 -- a message that may be sent, as written, is handed out by a hunting receiver, whatever follows
 pub reads-back : ReadsBack link
 reads-back = Lawful.reads-back link lawful
+
+-- of what any calls of the writer leave, cut anywhere, a fresh receiver hands out exactly the kept messages
+pub calls-read-back : CallsReadBack link
+calls-read-back = Wire.calls-read-back link lawful
 
 -- a message is accepted only where the stream holds exactly its frame
 pub canonical : Canonical link
@@ -21,5 +26,5 @@ pub accounted : Accounted link
 accounted = Lawful.accounted link lawful
 
 -- of two lists of calls the bytes are equal, or begin one another, exactly when the kept messages do
-pub demand3 : Demand3 link
-demand3 = Lawful.demand3 link lawful
+pub calls-told : CallsTold link
+calls-told = Wire.calls-told link lawful
