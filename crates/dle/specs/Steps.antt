@@ -1,11 +1,9 @@
 -- What the receiver's private functions answer: the steps of a call.
-use Prim.Native.Nat.{ℕ, _+_, _≤_}
+use Prim.Native.Nat.{ℕ, _≤_}
 use mathlib.Core.Path.{_≡_}
-use mathlib.Core.Bool.{Bool, _&&_}
 use mathlib.Core.List.{List}
 use mathlib.Core.Option.{Option}
-use lib.Dec.{ltb, eqb}
-use lib.ListN.{length, getD}
+use lib.ListN.{length}
 use Rattle.framing.specs.Segment.{Segment, eventOf}
 use Rattle.framing.specs.State.{stateAfter}
 use Rattle.framing.specs.Link.{Lent, told}
@@ -31,10 +29,6 @@ pub record Open (s : State) (store : List ℕ) : Type 0 where
 -- an open frame with no 10 waiting, by its counts
 abbrev pub opened : ℕ → ℕ → ℕ → State
 opened count held noise = record { mode = 2; count = count; «open» = held; noise = noise }
-
--- a doubled 10 lies whole at a place
-abbrev pub doubled : List ℕ → ℕ → Bool
-doubled piece at = ltb (at + 1) (length piece) && (eqb (getD piece at 0) 0x10 && eqb (getD piece (at + 1) 0) 0x10)
 
 -- from place i of a piece so many bytes are passed at once, without an event
 pub record Passes (piece : List ℕ) (c : Lent link) (i : ℕ) (r : Reached) (after : List ℕ) : Type 0 where

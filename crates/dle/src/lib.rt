@@ -1,7 +1,6 @@
 // The DLE link of gas meters: writer and receiver.
 use escape::Meaning;
 use framing::Answer;
-use framing::Gathered;
 use framing::Reached;
 use framing::State;
 use framing::refusal;
@@ -17,14 +16,12 @@ ghost use Rattle.framing.specs.Answer.{outcomeOf, storedAt};
 ghost use Rattle.framing.specs.Writer.{writes};
 ghost use Rattle.framing.specs.Receiver.{feed};
 ghost use Rattle.framing.specs.Segment.{eventOf};
-ghost use Rattle.framing.specs.Passing.{Gathers};
 ghost use Rattle.framing.specs.Link.{isEvent, told, stepOn, answered, answer};
-ghost use Rattle.escape.specs.Code.{meaningOf, hide};
-ghost use Rattle.escape.specs.Dle.{dle};
+ghost use Rattle.escape.specs.Code.{meaningOf};
 ghost use Rattle.dle.specs.Frame.{content, error, ok, enclose, frame};
 ghost use Rattle.dle.specs.Rules.{hunting, half, size, gathered, judge, gather, act, cut};
 ghost use Rattle.dle.specs.Contract.{phaseOf, dataOf, link, toldOf, answerOf};
-ghost use Rattle.dle.specs.Steps.{Answers, Open, opened, doubled, Passes};
+ghost use Rattle.dle.specs.Steps.{Answers, Open, Passes};
 
 // The least store of a receiver: a header of 3 bytes and data of at most 255.
 const SIZE: usize = 258;
@@ -292,61 +289,16 @@ fn made(event: Event) -> bool
     }
 }
 
-// Whether a doubled 10 lies whole at a place.
-fn is_doubled(piece: &[u8], at: usize) -> bool
-    requires { ⌜ at ≤ length (now piece) ⌝ }
-    ensures { λ r. ⌜ r ≡ doubled (now (piece .entry)) at ⌝ }
-{
-    if at + 1 < piece.len() {
-        if piece[at] == 0x10 {
-            piece[at + 1] == 0x10
-        } else {
-            false
-        }
-    } else {
-        false
-    }
-}
-
-// Bytes of an open frame with so many gathered: a doubled 10, or those up to the next 10, as far as the size allows.
-fn gather_some(store: &mut [u8], piece: &[u8], count: usize, from: usize) -> Gathered
-    requires { ⌜ (count ≤ size) × (size ≤ length (now store)) × (from ≤ length (now piece)) ⌝ }
-    ensures gathers { λ r. ⌜ Gathers link opened (now (piece .entry)) (now (store .entry)) count from (now (store .exit)) (r .count) (r .next) ⌝ }
-    ensures most { λ r. ⌜ r .count ≤ size ⌝ }
-{
-    if count < SIZE {
-        if is_doubled(piece, from) {
-            store[count] = 0x10;
-            return Gathered {
-                count: count + 1,
-                next: from + 2,
-            };
-        }
-    }
-    let n = runs::copy_before(0x10, 0x10, &piece[from..], store, count, SIZE - count);
-    Gathered {
-        count: count + n,
-        next: from + n,
-    }
-}
-
-// The bytes of an open frame from a place on, up to a mark, a half or wrong code, the size or the end of the piece.
+// The bytes of an open frame from a place on, as far as whole bytes come and the size allows.
 fn pass_bytes(state: State, store: &mut [u8], piece: &[u8], from: usize) -> Reached
     requires { ⌜ (state .mode ≡ 2) × (state .count ≤ size) × (size ≤ length (now store)) × (from ≤ length (now piece)) ⌝ }
     ensures { λ r. ⌜ Passes (now (piece .entry)) (state, now (store .entry)) from r (now (store .exit)) ⌝ }
 {
-    let mut count = state.count;
-    let mut i = from;
-    loop {
-        let more = gather_some(store, piece, count, i);
-        if more.next == i {
-            return Reached {
-                state: framing::pass_open(state, more.count, more.next - from),
-                next: more.next,
-            };
-        }
-        count = more.count;
-        i = more.next;
+    let count = state.count;
+    let got = escape::dle_unhide_into(&piece[from..], store, count, SIZE - count);
+    Reached {
+        state: framing::pass_open(state, count + got.count, got.used),
+        next: from + got.used,
     }
 }
 

@@ -7,3 +7,5 @@ pub mod Dle
 pub mod Expansion
 pub mod Form
 pub mod Gathered
+pub mod Unhide
+pub mod Passing

@@ -1,8 +1,9 @@
 -- Codes that hide bytes between the marks of a frame, so that no mark stands among them.
-use Prim.Native.Nat.{ℕ}
+use Prim.Native.Nat.{ℕ, zero, suc, _+_, _-_, min}
 use mathlib.Core.Bool.{Bool, true, false, cond}
 use mathlib.Core.List.{List, [], _∷_}
 use mathlib.Core.Option.{Option, none, some, Option·map}
+use lib.ListN.{length}
 use Rattle.runs.specs.Runs.{each}
 use Rattle.escape.specs.declared.Meaning.{Meaning as Told}
 use Rattle.escape.specs.declared.Meaning.the-variants as told
@@ -53,3 +54,32 @@ unhideFrom code waiting (w ∷ wire) = read (meaning code waiting w) (λ half. u
 -- the bytes that a run of wire bytes between the marks stands for: none if it holds a mark or a wrong code, or ends in half an escape
 abbrev pub unhide : Code → List ℕ → Option (List ℕ)
 unhide code wire = unhideFrom code false wire
+
+-- what is read where the first wire byte means this: with a byte, it stands before what is read behind it; with half an escape, what both halves give
+abbrev pub readFirst : Meaning → List ℕ × ℕ → List ℕ × ℕ → List ℕ × ℕ
+readFirst (byte b) behind both = (b ∷ behind .0, 1 + behind .1)
+readFirst waits behind both = both
+readFirst start behind both = ([], 0)
+readFirst end behind both = ([], 0)
+readFirst wrong behind both = ([], 0)
+
+-- the same where the first is half an escape, by what the second means
+abbrev pub readSecond : Meaning → List ℕ × ℕ → List ℕ × ℕ
+readSecond (byte b) behind = (b ∷ behind .0, 2 + behind .1)
+readSecond waits behind = ([], 0)
+readSecond start behind = ([], 0)
+readSecond end behind = ([], 0)
+readSecond wrong behind = ([], 0)
+
+-- the bytes that wire bytes stand for, from the first on, and how many wire bytes they take: as many as come whole, up to n. What ends them, a mark,
+-- a wrong code or half an escape at the end of the run, is left.
+unfoldable pub unhideUpTo : Code → ℕ → List ℕ → List ℕ × ℕ
+unhideUpTo code zero wire = ([], 0)
+unhideUpTo code (suc n) [] = ([], 0)
+unhideUpTo code (suc n) (w ∷ []) = readFirst (code .plain w) ([], 0) ([], 0)
+unhideUpTo code (suc n) (w ∷ x ∷ wire) =
+    readFirst (code .plain w) (unhideUpTo code n (x ∷ wire)) (readSecond (code .after x) (unhideUpTo code n wire))
+
+-- the same into memory from a place on, as far as it goes
+abbrev pub unhideInto : Code → ℕ → List ℕ → List ℕ → ℕ → List ℕ × ℕ
+unhideInto code most wire memory at = unhideUpTo code (min most (length memory - at)) wire

@@ -1,15 +1,15 @@
 // Hiding bytes between the marks of a frame: DLE doubling and the expansion escape.
 ghost use mathlib.Core.Path.{_≡_};
-ghost use Prim.Native.Nat.{_+_, _≤_};
+ghost use Prim.Native.Nat.{_+_, _-_, _≤_, min};
 ghost use lib.Dec.{leb};
 ghost use lib.ListN.{length};
 ghost use lib.Seq.{sets};
 ghost use Rattle.framing.specs.Answer.{outcomeOf, storedAt};
-ghost use Rattle.escape.specs.Code.{meaningOf, hide};
+ghost use Rattle.escape.specs.Code.{meaningOf, hide, unhideInto};
 ghost use Rattle.runs.specs.Runs.{each};
 ghost use Rattle.escape.specs.Dle.{dle};
 ghost use Rattle.escape.specs.Expansion.{expansion};
-ghost use Rattle.escape.specs.Form.{hides, runOf};
+ghost use Rattle.escape.specs.Form.{hides, runOf, uncodes, pairAt, unhideBy};
 use framing::Answer;
 use framing::refusal;
 
@@ -179,6 +179,93 @@ fn hide_by(escapes: Escapes, bytes: &[u8], out: &mut [u8], at: usize) -> Answer
     }
 }
 
+// What is read of a run of wire bytes: how many bytes it stands for, and how many wire bytes they take.
+pub struct Unhidden {
+    pub count: usize,
+    pub used: usize,
+}
+
+// Whether a byte after the escape byte hides one.
+fn is_code(escapes: Escapes, byte: u8) -> bool
+    ensures { λ r. ⌜ r ≡ uncodes escapes byte ⌝ }
+{
+    if byte <= escapes.top {
+        is_hidden(escapes, escapes.top - byte)
+    } else {
+        false
+    }
+}
+
+// Whether a hidden byte lies whole at a place.
+fn is_pair(escapes: Escapes, wire: &[u8], at: usize) -> bool
+    requires { ⌜ at ≤ length (now wire) ⌝ }
+    ensures { λ r. ⌜ r ≡ pairAt escapes (now (wire .entry)) at ⌝ }
+{
+    if at + 1 < wire.len() {
+        if wire[at] == escapes.escape {
+            is_code(escapes, wire[at + 1])
+        } else {
+            false
+        }
+    } else {
+        false
+    }
+}
+
+// Stores what wire bytes stand for from a place on, as many bytes as come whole and so many at most.
+fn unhide_by(escapes: Escapes, wire: &[u8], out: &mut [u8], at: usize, most: usize) -> Unhidden
+    requires { ⌜ (escapes .first ≤ escapes .escape) × (at + most ≤ length (now out)) ⌝ }
+    ensures count { λ r. ⌜ r .count ≡ length (unhideBy escapes most (now (wire .entry)) .0) ⌝ }
+    ensures used { λ r. ⌜ r .used ≡ unhideBy escapes most (now (wire .entry)) .1 ⌝ }
+    ensures put { λ r. ⌜ now (out .exit) ≡ sets (now (out .entry)) at (unhideBy escapes most (now (wire .entry)) .0) ⌝ }
+{
+    let mut count: usize = 0;
+    let mut i: usize = 0;
+    loop {
+        let n = runs::copy_before(
+            escapes.first,
+            escapes.escape,
+            &wire[i..],
+            out,
+            at + count,
+            most - count,
+        );
+        count += n;
+        i += n;
+        if count == most {
+            return Unhidden {
+                count: count,
+                used: i,
+            };
+        }
+        if is_pair(escapes, wire, i) {
+            out[at + count] = escapes.top - wire[i + 1];
+            count += 1;
+            i += 2;
+        } else {
+            return Unhidden {
+                count: count,
+                used: i,
+            };
+        }
+    }
+}
+
+// The same, as far as the memory goes.
+fn unhide_within(escapes: Escapes, wire: &[u8], out: &mut [u8], at: usize, most: usize) -> Unhidden
+    requires { ⌜ escapes .first ≤ escapes .escape ⌝ }
+    ensures count { λ r. ⌜ r .count ≡ length (unhideBy escapes (min most (length (now (out .entry)) - at)) (now (wire .entry)) .0) ⌝ }
+    ensures used { λ r. ⌜ r .used ≡ unhideBy escapes (min most (length (now (out .entry)) - at)) (now (wire .entry)) .1 ⌝ }
+    ensures put { λ r. ⌜ now (out .exit) ≡ sets (now (out .entry)) at (unhideBy escapes (min most (length (now (out .entry)) - at)) (now (wire .entry)) .0) ⌝ }
+{
+    if at <= out.len() {
+        let room = runs::least(most, out.len() - at);
+        unhide_by(escapes, wire, out, at, room)
+    } else {
+        Unhidden { count: 0, used: 0 }
+    }
+}
+
 // How many wire bytes DLE bytes take.
 pub fn dle_hidden_length(bytes: &[u8]) -> usize
     ensures { λ r. ⌜ r ≡ length (hide dle (now (bytes .entry))) ⌝ }
@@ -205,4 +292,22 @@ pub fn expansion_hide_into(bytes: &[u8], out: &mut [u8], at: usize) -> Answer
     ensures { λ r. ⌜ (outcomeOf r, now (out .exit)) ≡ storedAt (hide expansion (now (bytes .entry))) (now (out .entry)) at ⌝ }
 {
     hide_by(EXPANSION, bytes, out, at)
+}
+
+// Stores what DLE wire bytes stand for from a place on, as many as come whole and fit there, and so many at most.
+pub fn dle_unhide_into(wire: &[u8], out: &mut [u8], at: usize, most: usize) -> Unhidden
+    ensures count { λ r. ⌜ r .count ≡ length (unhideInto dle most (now (wire .entry)) (now (out .entry)) at .0) ⌝ }
+    ensures used { λ r. ⌜ r .used ≡ unhideInto dle most (now (wire .entry)) (now (out .entry)) at .1 ⌝ }
+    ensures put { λ r. ⌜ now (out .exit) ≡ sets (now (out .entry)) at (unhideInto dle most (now (wire .entry)) (now (out .entry)) at .0) ⌝ }
+{
+    unhide_within(DLE, wire, out, at, most)
+}
+
+// Stores what expansion wire bytes stand for from a place on, as many as come whole and fit there, and so many at most.
+pub fn expansion_unhide_into(wire: &[u8], out: &mut [u8], at: usize, most: usize) -> Unhidden
+    ensures count { λ r. ⌜ r .count ≡ length (unhideInto expansion most (now (wire .entry)) (now (out .entry)) at .0) ⌝ }
+    ensures used { λ r. ⌜ r .used ≡ unhideInto expansion most (now (wire .entry)) (now (out .entry)) at .1 ⌝ }
+    ensures put { λ r. ⌜ now (out .exit) ≡ sets (now (out .entry)) at (unhideInto expansion most (now (wire .entry)) (now (out .entry)) at .0) ⌝ }
+{
+    unhide_within(EXPANSION, wire, out, at, most)
 }

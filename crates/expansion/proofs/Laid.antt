@@ -1,5 +1,5 @@
 -- A frame laid into memory part by part: the FD, the header, the data and the CRC, each hidden, and the FE.
-use Prim.Native.Nat.{ℕ, _+_, _≤_}
+use Prim.Native.Nat.{ℕ, _+_, _*_, _≤_}
 use mathlib.Core.Path.{_≡_, refl, ap, _∙_}
 use mathlib.Core.List.{List, [], _∷_, _++_, append-assoc}
 use native.Mathlib.Nat.{zero-add}
@@ -10,7 +10,8 @@ use Rattle.runs.proofs.Run.{Run, run-start, run-part, run-one, run-end}
 use Rattle.escape.specs.Code.{hide}
 use Rattle.escape.specs.Expansion.{hideByte, expansion}
 use Rattle.runs.proofs.Each.{each-append}
-use Rattle.escape.proofs.Expansion.{expansion-bound}
+use Rattle.escape.proofs.Lawful.{hide-short}
+use Rattle.escape.proofs.Expansion.{expansion-lawful, expansion-bound}
 use Rattle.expansion.specs.Frame.{enclose}
 use Rattle.expansion.specs.Rules.{size}
 
@@ -37,6 +38,11 @@ module _ (header payload check : List ℕ) where
   pub parts-short : length (header ++ (payload ++ check)) ≤ size
       → 2 + length (hide expansion header) + length (hide expansion payload) + length (hide expansion check) ≤ 2066
   parts-short h = omega (arith, parts-length, expansion-bound (header ++ (payload ++ check)) h)
+
+  pub parts-most : length whole ≤ 2 * (length header + length payload + length check) + 2
+  parts-most =
+      let short = hide-short expansion expansion-lawful in
+      omega (arith, parts-length, short header, short payload, short check)
 
   -- after the FD, the header, the data and the CRC, each with the place behind it and the memory then
   module _ (out : List ℕ) (fits : length whole ≤ length out) where

@@ -1,11 +1,9 @@
 -- What the receiver's private functions answer: the steps of a call.
-use Prim.Native.Nat.{ℕ, _+_, _≤_}
+use Prim.Native.Nat.{ℕ, _≤_}
 use mathlib.Core.Path.{_≡_}
-use mathlib.Core.Bool.{Bool, _&&_}
 use mathlib.Core.List.{List}
 use mathlib.Core.Option.{Option}
-use lib.Dec.{ltb, leb, eqb}
-use lib.ListN.{length, getD}
+use lib.ListN.{length}
 use Rattle.runs.specs.Runs.{over}
 use Rattle.framing.specs.Segment.{Segment, eventOf}
 use Rattle.framing.specs.State.{stateAfter}
@@ -32,10 +30,6 @@ pub record Room (s : State) (store : List ℕ) : Type 0 where
 -- an open frame with no FF waiting, by its counts
 abbrev pub opened : ℕ → ℕ → ℕ → State
 opened count held noise = record { mode = 1; count = count; «open» = held; noise = noise }
-
--- a hidden byte lies whole at a place: FF and then 00, 01 or 02
-abbrev pub hiddenAt : List ℕ → ℕ → Bool
-hiddenAt piece at = ltb (at + 1) (length piece) && (eqb (getD piece at 0) 0xFF && leb (getD piece (at + 1) 0) 0x02)
 
 -- from place i of a piece so many bytes are passed at once, without an event
 pub record Passes (piece : List ℕ) (c : Lent link) (i : ℕ) (r : Reached) (after : List ℕ) : Type 0 where

@@ -1,7 +1,6 @@
 // The expansion link of gate boards: writer and receiver.
 use escape::Meaning;
 use framing::Answer;
-use framing::Gathered;
 use framing::Reached;
 use framing::State;
 use framing::refusal;
@@ -17,14 +16,13 @@ ghost use Rattle.framing.specs.Answer.{outcomeOf, storedAt};
 ghost use Rattle.framing.specs.Writer.{writes};
 ghost use Rattle.framing.specs.Receiver.{feed};
 ghost use Rattle.framing.specs.Segment.{eventOf};
-ghost use Rattle.framing.specs.Passing.{Gathers};
 ghost use Rattle.framing.specs.Link.{isEvent, told, stepOn, answered, answer};
-ghost use Rattle.escape.specs.Code.{meaningOf, meaning, hide};
+ghost use Rattle.escape.specs.Code.{meaningOf, meaning};
 ghost use Rattle.escape.specs.Expansion as Escape;
 ghost use Rattle.expansion.specs.Frame.{kindOk, ok, enclose, frame};
 ghost use Rattle.expansion.specs.Rules.{hunting, size, checkRight, judge, gather, act, cut};
 ghost use Rattle.expansion.specs.Contract.{phaseOf, dataOf, link, toldOf, answerOf};
-ghost use Rattle.expansion.specs.Steps.{Answers, Room, opened, hiddenAt, Passes};
+ghost use Rattle.expansion.specs.Steps.{Answers, Room, Passes};
 
 // The least store of a receiver: a header of 4 bytes, at most 1,024 of data, a CRC of 4.
 const SIZE: usize = 1032;
@@ -79,10 +77,11 @@ fn is_sendable(kind: u8, repeat: u8, length: usize) -> bool
     fields_ok(kind, repeat, length) && length <= 1024
 }
 
-// Stores a frame at the start.
-fn put_frame(header: &[u8], data: &[u8], trailer: &[u8], out: &mut [u8])
+// Stores a frame at the start, and answers its length.
+fn put_frame(header: &[u8], data: &[u8], trailer: &[u8], out: &mut [u8]) -> usize
     requires { ⌜ length (enclose (now header ++ (now «data» ++ now trailer))) ≤ length (now out) ⌝ }
-    ensures { λ r. ⌜ now (out .exit) ≡ sets (now (out .entry)) 0 (enclose (now (header .entry) ++ (now («data» .entry) ++ now (trailer .entry)))) ⌝ }
+    ensures long { λ r. ⌜ r ≡ length (enclose (now (header .entry) ++ (now («data» .entry) ++ now (trailer .entry)))) ⌝ }
+    ensures put { λ r. ⌜ now (out .exit) ≡ sets (now (out .entry)) 0 (enclose (now (header .entry) ++ (now («data» .entry) ++ now (trailer .entry)))) ⌝ }
 {
     out[0] = 0xFD;
     let head = escape::expansion_hide_into(header, out, 1);
@@ -92,6 +91,7 @@ fn put_frame(header: &[u8], data: &[u8], trailer: &[u8], out: &mut [u8])
     let check = escape::expansion_hide_into(trailer, out, b);
     let c = b + framing::count_of(check);
     out[c] = 0xFE;
+    c + 1
 }
 
 // How many wire bytes a frame takes.
@@ -105,14 +105,26 @@ fn frame_length(header: &[u8], data: &[u8], trailer: &[u8]) -> usize
     2 + a + b + c
 }
 
+// Whether a frame fits a memory. Where two wire bytes for each byte fit, they need not be counted.
+fn has_room(header: &[u8], data: &[u8], trailer: &[u8], memory: usize) -> bool
+    requires { ⌜ length (now header ++ (now «data» ++ now trailer)) ≤ size ⌝ }
+    ensures { λ r. ⌜ r ≡ leb (length (enclose (now (header .entry) ++ (now («data» .entry) ++ now (trailer .entry))))) memory ⌝ }
+{
+    if 2 * (header.len() + data.len() + trailer.len()) + 2 <= memory {
+        true
+    } else {
+        let total = frame_length(header, data, trailer);
+        total <= memory
+    }
+}
+
 // Stores a frame at the start, if it fits.
 fn send(header: &[u8], data: &[u8], trailer: &[u8], out: &mut [u8]) -> Answer
     requires { ⌜ length (now header ++ (now «data» ++ now trailer)) ≤ size ⌝ }
     ensures { λ r. ⌜ (outcomeOf r, now (out .exit)) ≡ storedAt (enclose (now (header .entry) ++ (now («data» .entry) ++ now (trailer .entry)))) (now (out .entry)) 0 ⌝ }
 {
-    let n = frame_length(header, data, trailer);
-    if n <= out.len() {
-        put_frame(header, data, trailer, out);
+    if has_room(header, data, trailer, out.len()) {
+        let n = put_frame(header, data, trailer, out);
         Answer::Done(n)
     } else {
         Answer::Refused(refusal::OUTPUT_SHORT)
@@ -269,61 +281,16 @@ fn made(event: Event) -> bool
     }
 }
 
-// Whether a hidden byte lies whole at a place: FF and then 00, 01 or 02.
-fn is_hidden(piece: &[u8], at: usize) -> bool
-    requires { ⌜ at ≤ length (now piece) ⌝ }
-    ensures { λ r. ⌜ r ≡ hiddenAt (now (piece .entry)) at ⌝ }
-{
-    if at + 1 < piece.len() {
-        if piece[at] == 0xFF {
-            piece[at + 1] <= 0x02
-        } else {
-            false
-        }
-    } else {
-        false
-    }
-}
-
-// Bytes of an open frame with so many gathered: a hidden one, or those up to the next FD, FE or FF, as far as the size allows.
-fn gather_some(store: &mut [u8], piece: &[u8], count: usize, from: usize) -> Gathered
-    requires { ⌜ (count ≤ size) × (size ≤ length (now store)) × (from ≤ length (now piece)) ⌝ }
-    ensures gathers { λ r. ⌜ Gathers link opened (now (piece .entry)) (now (store .entry)) count from (now (store .exit)) (r .count) (r .next) ⌝ }
-    ensures most { λ r. ⌜ r .count ≤ size ⌝ }
-{
-    if count < SIZE {
-        if is_hidden(piece, from) {
-            store[count] = 0xFF - piece[from + 1];
-            return Gathered {
-                count: count + 1,
-                next: from + 2,
-            };
-        }
-    }
-    let n = runs::copy_before(0xFD, 0xFF, &piece[from..], store, count, SIZE - count);
-    Gathered {
-        count: count + n,
-        next: from + n,
-    }
-}
-
-// The bytes of an open frame from a place on, up to a mark, a half or wrong code, the size or the end of the piece.
+// The bytes of an open frame from a place on, as far as whole bytes come and the size allows.
 fn pass_bytes(state: State, store: &mut [u8], piece: &[u8], from: usize) -> Reached
     requires { ⌜ (state .mode ≡ 1) × (state .count ≤ size) × (size ≤ length (now store)) × (from ≤ length (now piece)) ⌝ }
     ensures { λ r. ⌜ Passes (now (piece .entry)) (state, now (store .entry)) from r (now (store .exit)) ⌝ }
 {
-    let mut count = state.count;
-    let mut i = from;
-    loop {
-        let more = gather_some(store, piece, count, i);
-        if more.next == i {
-            return Reached {
-                state: framing::pass_open(state, more.count, more.next - from),
-                next: more.next,
-            };
-        }
-        count = more.count;
-        i = more.next;
+    let count = state.count;
+    let got = escape::expansion_unhide_into(&piece[from..], store, count, SIZE - count);
+    Reached {
+        state: framing::pass_open(state, count + got.count, got.used),
+        next: from + got.used,
     }
 }
 

@@ -38,12 +38,6 @@ pub struct Reached {
     pub next: usize,
 }
 
-// What is reached inside a frame: how many bytes are gathered, and the next place of the piece.
-pub struct Gathered {
-    pub count: usize,
-    pub next: usize,
-}
-
 // A receiver that has read nothing.
 pub fn fresh() -> State
     ensures { λ r. ⌜ r ≡ freshState ⌝ }

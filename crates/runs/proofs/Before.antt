@@ -11,7 +11,7 @@ use Rattle.runs.specs.Runs.{between, before}
 use Rattle.runs.proofs.Bytes.{drop-next}
 use Rattle.runs.proofs.Cases.{by-test}
 
-first-not : (t : Bool) (n : ℕ) → 0 < cond t 0 (suc n) → t ≡ false
+pub first-not : (t : Bool) (n : ℕ) → 0 < cond t 0 (suc n) → t ≡ false
 first-not true n h = absurd (omega arith)
 first-not false n h = refl
 
@@ -35,6 +35,13 @@ module _ (low high : ℕ) where
   before-not [] k h = absurd (omega arith)
   before-not (b ∷ bs) zero h = first-not (between low high b) (before low high bs) h
   before-not (b ∷ bs) (suc k) h = before-not bs k (later-less (between low high b) (before low high bs) k h)
+
+  -- and behind them is a mark, or nothing
+  pub before-rest : (bs : List ℕ) → before low high (drop (before low high bs) bs) ≡ 0
+  unfolding before
+  before-rest [] = refl
+  before-rest (b ∷ bs) =
+      by-test (λ (n : ℕ). before low high (drop n (b ∷ bs)) ≡ 0) (between low high b) (λ e. rw e) (λ _. before-rest bs)
 
   -- what a loop that counts up by one keeps: the mark at place k is the first, and what is no mark counts
   module _ (l : List ℕ) (k : ℕ) where

@@ -9,17 +9,17 @@ use Rattle.checksum.proofs.crc32_joined.Tie as tie
 table32-requires : tie.Need-table32-requires
 table32-requires c κs = search needs
 
+after-requires : tie.Need-after-requires
+after-requires c κs = search needs
+
 after32-requires : tie.Need-after32-requires
 after32-requires c κs = search needs
-
-after32-requires-2 : tie.Need-after32-requires-2
-after32-requires-2 c κs = search needs
 
 returns : tie.Need-returns
 returns c =
     let rule = c .before .before .before .before .table32 .ensures in
     ap (λ (x : ℕ). bitXor x (2 ^ 32 - 1))
-    (run-joined 0xEDB88320 (2 ^ 32 - 1) _ _ (c .before .after32 .ensures rule) (c .after322 .ensures rule))
+    (run-joined 0xEDB88320 (2 ^ 32 - 1) _ _ (c .before .after .ensures 0xEDB88320 rule) (c .after32 .ensures rule))
 
 pub crc32-joined-spec : {M : Type 1} → statement M
-crc32-joined-spec = tie.close (tie.spec table32-requires after32-requires after32-requires-2 returns)
+crc32-joined-spec = tie.close (tie.spec table32-requires after-requires after32-requires returns)

@@ -134,15 +134,20 @@ slice-write-out-2 c = omega (arith, after-check c .left, after-check c .fits, af
 same-length : tie.Need-same-length
 same-length c = length-set (checks c .expansion-hide-into3 .last .1 .0) (place c + c .count-of3 .result) 0xFE ∙ after-check c .long
 
+add-result : tie.Need-add-result
+add-result c = omega (arith, after-check c .left, after-check c .fits)
+
 returns : tie.Need-returns
 returns c =
     let b = body c in
     let h = header b in
     let a = start h .args in
-    let p = 1 + h .count-of .result in
-    laid-frame (a .header .now) (a .«data» .now) (a .trailer .now) (a .out .now) (start h .pre) p (heads h .expansion-hide-into .last .1 .0)
-    (ap (λ (n : ℕ). 1 + n) (headed h .0)) (headed h .1) (place c) (fills b .expansion-hide-into2 .last .1 .0) (ap (λ (n : ℕ). p + n) (filled b .0)) (filled b .1)
-    (place c + c .count-of3 .result) (checks c .expansion-hide-into3 .last .1 .0) (ap (λ (n : ℕ). place c + n) (checked c .0)) (checked c .1)
+    let p = 1 + h .count-of .result in (
+      omega (arith, after-check c .left),
+      laid-frame (a .header .now) (a .«data» .now) (a .trailer .now) (a .out .now) (start h .pre) p (heads h .expansion-hide-into .last .1 .0)
+          (ap (λ (n : ℕ). 1 + n) (headed h .0)) (headed h .1) (place c) (fills b .expansion-hide-into2 .last .1 .0) (ap (λ (n : ℕ). p + n) (filled b .0)) (filled b .1)
+          (place c + c .count-of3 .result) (checks c .expansion-hide-into3 .last .1 .0) (ap (λ (n : ℕ). place c + n) (checked c .0)) (checked c .1),
+    )
 
 pub put-frame-spec : {M : Type 1} → statement M
 put-frame-spec =
@@ -159,5 +164,6 @@ put-frame-spec =
     count-of-requires-3
     add-c
     slice-write-out-2
+    add-result
     same-length
     returns)

@@ -1,35 +1,40 @@
-use native.Mathlib.Omega.{arith}
-use mathlib.Core.Path.{sym}
-use mathlib.Core.List.{_++_}
-use Rattle.expansion.specs.Frame.{enclose}
-use Rattle.framing.proofs.Stored.{stored-so, stored-refused}
 use borrow.Author.Needs.{needs}
+use native.Mathlib.Omega.{arith}
+use mathlib.Core.Path.{sym, _∙_}
+use mathlib.Core.List.{_++_}
+use lib.ListN.{length}
+use borrow.Author.Tests.{leb-true, leb-false}
+use Rattle.framing.proofs.Stored.{stored-so, stored-refused}
+use Rattle.expansion.specs.Frame.{enclose}
 use Rattle.expansion.proofs.send.Statement.{statement}
 use Rattle.expansion.proofs.send.Tie as tie
 
-frame-length-requires : tie.Need-frame-length-requires
-frame-length-requires c κs = search needs
+has-room-requires : tie.Need-has-room-requires
+has-room-requires c κs = search needs
 
 put-frame-requires : tie.Need-put-frame-requires
-put-frame-requires c κs = search needs
+put-frame-requires c κs =
+    let r = c .before .before in
+    let a = r .before .before .before .before .before .args in
+    leb-true (length (enclose (a .header .now ++ (a .«data» .now ++ a .trailer .now)))) (length (a .out .now)) (sym (r .has-room .ensures) ∙ c .before .if1 .taken)
 
 same-length : tie.Need-same-length
 same-length c = search needs
 
 returns : tie.Need-returns
 returns c =
-    let n = c .before .before .before .before .before in
-    let a = n .before .before .before .before .before .args in
-    stored-so (enclose (a .header .now ++ (a .«data» .now ++ a .trailer .now))) (a .out .now) 0 (c .before .before .put-frame .last .1 .1 .1 .0)
-    (n .frame-length .result) (n .frame-length .ensures) (omega (arith, c .before .before .before .before .if1 .taken))
-    (c .before .before .put-frame .ensures)
+    let r = c .before .before .before .before .before in
+    let a = r .before .before .before .before .before .args in
+    let run = enclose (a .header .now ++ (a .«data» .now ++ a .trailer .now)) in
+    let p = c .before .before .put-frame in
+    let fit = leb-true (length run) (length (a .out .now)) (sym (r .has-room .ensures) ∙ c .before .before .before .before .if1 .taken) in
+    stored-so run (a .out .now) 0 _ _ (p .ensures .0) (omega (arith, fit, p .ensures .0)) (p .ensures .1)
 
 returns-2 : tie.Need-returns-2
 returns-2 c =
-    let n = c .before in
-    let a = n .before .before .before .before .before .args in
-    sym (stored-refused (enclose (a .header .now ++ (a .«data» .now ++ a .trailer .now))) (a .out .now) 0 (omega (arith, n .frame-length .ensures, c .if1 .left)))
+    let a = c .before .before .before .before .before .before .args in
+    let run = enclose (a .header .now ++ (a .«data» .now ++ a .trailer .now)) in
+    sym (stored-refused run (a .out .now) 0 (omega (arith, leb-false (length run) (length (a .out .now)) (sym (c .before .has-room .ensures) ∙ c .if1 .left))))
 
 pub send-spec : {M : Type 1} → statement M
-send-spec =
-    tie.close (tie.spec frame-length-requires put-frame-requires same-length returns returns-2)
+send-spec = tie.close (tie.spec has-room-requires put-frame-requires same-length returns returns-2)

@@ -1,0 +1,164 @@
+use Prim.Native.Nat.{ℕ, _+_, _-_, _<_}
+use mathlib.Core.Path.{_≡_, sym, ap, _∙_}
+use native.Mathlib.Omega.{arith}
+use lib.ListN.{length, take, drop}
+use Rattle.runs.specs.Runs.{before}
+use Rattle.escape.specs.Form.{unhideBy}
+use Rattle.escape.proofs.Unhide.{Reading, reading-start, reading-run, reading-pair, reading-end, run-over, pair-parts, pair-top, stops}
+use Rattle.escape.proofs.unhide_by.Statement.{statement}
+use Rattle.escape.proofs.unhide_by.Tie as tie
+
+abbrev Inv-loop : tie.InvT-loop
+Inv-loop escapes wire out₀ at most count₀ i₀ out count i = Reading escapes wire out₀ at most out count i
+
+abbrev μ-loop : tie.MeasureT-loop
+μ-loop escapes wire out₀ at most count₀ i₀ out count i = length wire - i
+
+closer : (m i n : ℕ) → i + n + 1 < m → m - (i + n + 2) < m - i
+closer m i n h = omega arith
+
+-- what holds once a run of bytes that mean themselves is stored
+copied : (c : tie.After-copy-before Inv-loop μ-loop) →
+    let l = c .before .before .before in
+    let a = l .before .before .before .args in
+    let n = c .copy-before .result in
+    Reading (a .escapes) (a .wire .now) (a .out .now) (a .at) (a .most) (c .copy-before .last .1 .1 .1 .0) (l .loop .count + n) (l .loop .i + n)
+copied c =
+    let l = c .before .before .before in
+    let a = l .before .before .before .args in
+    let h = c .copy-before .ensures in
+    reading-run (a .escapes) (a .wire .now) (a .out .now) (a .at) (a .most) _ _ _ _ _ (l .loop .inv) (h .1 .0 .0) (omega (arith, h .0)) (h .1 .1)
+
+loop-holds : tie.Need-loop-holds Inv-loop μ-loop
+loop-holds c = let s = c .before .before in reading-start (s .args .escapes) (s .args .wire .now) (s .args .out .now) (s .args .at) (s .args .most) (s .pre .1)
+
+sub-copy-before : tie.Need-sub-copy-before Inv-loop μ-loop
+sub-copy-before c = omega arith
+
+part-copy-before-start : tie.Need-part-copy-before-start Inv-loop μ-loop
+part-copy-before-start c = omega arith
+
+part-copy-before-end : tie.Need-part-copy-before-end Inv-loop μ-loop
+part-copy-before-end c = omega arith
+
+add-copy-before : tie.Need-add-copy-before Inv-loop μ-loop
+add-copy-before c = omega arith
+
+sub-copy-before-2 : tie.Need-sub-copy-before-2 Inv-loop μ-loop
+sub-copy-before-2 c = omega arith
+
+copy-before-requires : tie.Need-copy-before-requires Inv-loop μ-loop
+copy-before-requires c κs = tt
+
+add-count : tie.Need-add-count Inv-loop μ-loop
+add-count c = omega arith
+
+add-i : tie.Need-add-i Inv-loop μ-loop
+add-i c = omega arith
+
+same-length : tie.Need-same-length Inv-loop μ-loop
+same-length c = let f = c .before .before .before in copied f .stored .long
+
+returns : tie.Need-returns Inv-loop μ-loop
+unfolding unhideBy
+returns c =
+    let f = c .before .before .before in
+    let l = f .before .before .before in
+    let a = l .before .before .before .args in
+    let none : a .most - (l .loop .count + f .copy-before .result) ≡ 0 = omega (arith, c .if1 .taken) in
+    reading-end (a .escapes) (a .wire .now) (a .out .now) (a .at) (a .most) _ _ _ (copied f)
+    (ap (λ (r : ℕ). unhideBy (a .escapes) r (drop (l .loop .i + f .copy-before .result) (a .wire .now))) none)
+
+is-pair-requires : tie.Need-is-pair-requires Inv-loop μ-loop
+is-pair-requires c κs = copied (c .before .before .before) .there
+
+same-length-2 : tie.Need-same-length-2 Inv-loop μ-loop
+same-length-2 c = copied (c .before .before .before .before .before) .stored .long
+
+returns-2 : tie.Need-returns-2 Inv-loop μ-loop
+returns-2 c =
+    let f = c .before .before .before .before .before in
+    let l = f .before .before .before in
+    let s = l .before .before .before in
+    let a = s .args in
+    let g = copied f in
+    let i = l .loop .i in
+    let n = f .copy-before .result in
+    let all : n ≡ before (a .escapes .first) (a .escapes .escape) (take (length (a .wire .now) - i) (drop i (a .wire .now))) = omega (arith, f .copy-before .ensures .0, g .some, c .before .before .if1 .left, s .pre .1, l .loop .inv .stored .long) in
+    reading-end (a .escapes) (a .wire .now) (a .out .now) (a .at) (a .most) _ _ _ g
+    (stops (a .escapes) _ (a .wire .now) (i + n) (g .there) (run-over (a .escapes) (a .wire .now) (a .out .now) (a .at) (a .most) i n all) (sym (c .before .is-pair .ensures) ∙ c .if2 .left))
+
+add-out : tie.Need-add-out Inv-loop μ-loop
+add-out c = omega arith
+
+shared-slice-read-out : tie.Need-shared-slice-read-out Inv-loop μ-loop
+shared-slice-read-out c =
+    let f = c .before .before .before .before .before .before in
+    let l = f .before .before .before in
+    let a = l .before .before .before .args in
+    pair-parts (a .escapes) (a .wire .now) (l .loop .i + f .copy-before .result) (sym (c .before .before .is-pair .ensures) ∙ c .before .if2 .taken) .0
+
+sub-out : tie.Need-sub-out Inv-loop μ-loop
+sub-out c =
+    let f = c .before .before .before .before .before .before .before in
+    let l = f .before .before .before in
+    let a = l .before .before .before .args in
+    pair-top (a .escapes) (a .wire .now) (l .loop .i + f .copy-before .result) (sym (c .before .before .before .is-pair .ensures) ∙ c .before .before .if2 .taken)
+
+add-out-2 : tie.Need-add-out-2 Inv-loop μ-loop
+add-out-2 c = omega arith
+
+slice-write-out : tie.Need-slice-write-out Inv-loop μ-loop
+slice-write-out c = omega arith
+
+add-count-2 : tie.Need-add-count-2 Inv-loop μ-loop
+add-count-2 c = omega arith
+
+add-i-2 : tie.Need-add-i-2 Inv-loop μ-loop
+add-i-2 c = omega arith
+
+loop-less : tie.Need-loop-less Inv-loop μ-loop
+loop-less c =
+    let f = c .before .before .before .before .before .before .before in
+    let l = f .before .before .before in
+    let a = l .before .before .before .args in
+    let there = pair-parts (a .escapes) (a .wire .now) (l .loop .i + f .copy-before .result) (sym (c .before .before .before .is-pair .ensures) ∙ c .before .before .if2 .taken) .0 in
+    closer (length (a .wire .now)) (l .loop .i) (f .copy-before .result) there
+
+loop-again : tie.Need-loop-again Inv-loop μ-loop
+loop-again c =
+    let f = c .before .before .before .before .before .before .before in
+    let l = f .before .before .before in
+    let s = l .before .before .before in
+    let a = s .args in
+    reading-pair (a .escapes) (a .wire .now) (a .out .now) (a .at) (a .most) _ _ _ (s .pre .0) (copied f) (omega (arith, copied f .some, c .before .before .before .before .if1 .left)) (sym (c .before .before .before .is-pair .ensures) ∙ c .before .before .if2 .taken)
+
+pub unhide-by-spec : {M : Type 1} → statement M
+unhide-by-spec =
+    tie.close
+    (tie.spec
+    Inv-loop
+    μ-loop
+    loop-holds
+    sub-copy-before
+    part-copy-before-start
+    part-copy-before-end
+    add-copy-before
+    sub-copy-before-2
+    copy-before-requires
+    add-count
+    add-i
+    same-length
+    returns
+    is-pair-requires
+    add-out
+    shared-slice-read-out
+    sub-out
+    add-out-2
+    slice-write-out
+    add-count-2
+    add-i-2
+    loop-less
+    loop-again
+    same-length-2
+    returns-2)
