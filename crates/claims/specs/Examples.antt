@@ -1,7 +1,7 @@
 -- The twelve examples that the papers mark to be proved, as one statement over one list of rows.
 use Prim.Native.Nat.{ℕ}
 use mathlib.Core.Path.{_≡_}
-use mathlib.Core.List.{List, [], _∷_, _++_}
+use mathlib.Core.List.{List, [], _∷_}
 use mathlib.Core.Option.{Option, some}
 use lib.IntN.{ℤ, negsuc}
 use Rattle.framing.specs.Answer.{Outcome, done}

@@ -15,10 +15,6 @@ module _ (f : ℕ → List ℕ) where
   unfolding each
   each-nil = refl
 
-  pub each-cons : (b : ℕ) (bs : List ℕ) → each f (b ∷ bs) ≡ f b ++ each f bs
-  unfolding each
-  each-cons b bs = refl
-
   pub each-append : (xs ys : List ℕ) → each f (xs ++ ys) ≡ each f xs ++ each f ys
   unfolding each
   each-append [] ys = refl
