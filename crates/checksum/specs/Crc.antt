@@ -1,6 +1,5 @@
 -- CRCs, lowest bit of each byte first. A register of w bits is a number below 2 ^ w, its constant p the polynomial, reflected.
 use Prim.Native.Nat.{ℕ, zero, suc, _/_, _%_, _*_, _^_, _-_}
-use mathlib.Core.Bool.{Bool, cond}
 use mathlib.Core.List.{List, [], _∷_}
 use lib.Bits.{bitXor}
 
@@ -21,10 +20,6 @@ byteStep p c b = shifts p 8 (bitXor c b)
 unfoldable pub run : ℕ → ℕ → List ℕ → ℕ
 run p c [] = c
 run p c (b ∷ bs) = run p (byteStep p c b) bs
-
--- the register constants of the two CRCs: 32 bits wide, or 16
-abbrev pub constantOf : Bool → ℕ
-constantOf wide = cond wide 0xEDB88320 0xA001
 
 -- the CRC of MDU: x^16 + x^15 + x^2 + 1, reflected, start 0
 abbrev pub crc16Of : List ℕ → ℕ

@@ -11,7 +11,7 @@ ghost use mathlib.Core.List.{[], _∷_, _++_};
 ghost use Prim.Native.Nat.{ℕ, _+_, _*_, _-_, _/_, _%_, _^_, _≤_, _<_};
 ghost use lib.ListN.{length, take, drop};
 ghost use Rattle.runs.specs.Number.{number};
-ghost use Rattle.checksum.specs.Crc.{shifts, run, constantOf, crc16Of, crc32Of};
+ghost use Rattle.checksum.specs.Crc.{shifts, run, crc16Of, crc32Of};
 ghost use Rattle.checksum.specs.Tables.{NibbleTable, BraidTable, AfterBytes};
 ghost use Rattle.checksum.specs.Braids.{StandsFor, Braided};
 ghost use Rattle.checksum.specs.Sum.{totalOf, lowered, sumOf};
@@ -33,11 +33,18 @@ fn table32() -> [u32; 128]
     NIBBLES32
 }
 
-// The table of a CRC for long runs: that of the expansion link, or that of MDU.
-fn long_table(wide: bool) -> [u32; 1024]
-    ensures { λ r. ⌜ BraidTable (constantOf wide) r ⌝ }
+// The table of the CRC of MDU for long runs.
+fn braid16() -> [u32; 1024]
+    ensures { λ r. ⌜ BraidTable 0xA001 r ⌝ }
 {
-    if wide { BRAID32 } else { BRAID16 }
+    BRAID16
+}
+
+// The table of the CRC of the expansion link for long runs.
+fn braid32() -> [u32; 1024]
+    ensures { λ r. ⌜ BraidTable 0xEDB8_8320 r ⌝ }
+{
+    BRAID32
 }
 
 // The entry of a row for the lowest four bits.
@@ -218,15 +225,6 @@ fn after_long(table: &[u32; 128], long: &[u32; 1024], start: u32, bytes: &[u8]) 
     after(table, c, &rest[24..])
 }
 
-// The register of a CRC after the bytes of a long run. The table stands here, so that calls with short runs stay small.
-fn after_many(wide: bool, table: &[u32; 128], start: u32, bytes: &[u8]) -> u32
-    requires { ⌜ 24 ≤ length (now bytes) ⌝ }
-    ensures { λ r. ⌜ (NibbleTable (constantOf wide) (now (table .entry)) → r ≡ run (constantOf wide) start (now (bytes .entry))) ⌝ }
-{
-    let long = long_table(wide);
-    after_long(table, &long, start, bytes)
-}
-
 // The register of the CRC of MDU after the bytes. A part is handed on, since the slice itself would be copied for short runs too.
 fn after16(table: &[u32; 128], start: u32, bytes: &[u8]) -> u32
     ensures { λ r. ⌜ (NibbleTable 0xA001 (now (table .entry)) → r ≡ run 0xA001 start (now (bytes .entry))) ⌝ }
@@ -234,7 +232,8 @@ fn after16(table: &[u32; 128], start: u32, bytes: &[u8]) -> u32
     if bytes.len() < LONG {
         after(table, start, bytes)
     } else {
-        after_many(false, table, start, &bytes[0..])
+        let long = braid16();
+        after_long(table, &long, start, &bytes[0..])
     }
 }
 
@@ -245,7 +244,8 @@ fn after32(table: &[u32; 128], start: u32, bytes: &[u8]) -> u32
     if bytes.len() < LONG {
         after(table, start, bytes)
     } else {
-        after_many(true, table, start, &bytes[0..])
+        let long = braid32();
+        after_long(table, &long, start, &bytes[0..])
     }
 }
 

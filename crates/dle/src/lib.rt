@@ -29,8 +29,8 @@ const SIZE: usize = 258;
 // An accepted message: length 0 marks an error message with its error byte; else so much data lies in the store from place 3.
 pub struct Message {
     pub sequence: u8,
-    pub node: u8,
     pub length: u8,
+    pub node: u8,
     pub error: u8,
 }
 

@@ -5,17 +5,17 @@ use mathlib.Core.List.{List, [], _∷_, _++_}
 use mathlib.Core.Option.{Option, none, some}
 use lib.ListN.{length, take, drop, getD}
 use lib.Dec.{eqb}
-use Rattle.packing.specs.Seven.{isSent}
+use Rattle.packing.specs.Seven.{isSent, valueOf}
 use Rattle.packing.specs.Packed.{lastPlace}
 
 -- the data bytes with the low bits that went out as the bytes of g and with the top bits t, the last byte's at place 0
 unfoldable pub joined : ℕ → List ℕ → List ℕ
 joined t [] = []
-joined t (b ∷ g) = (b % 128 + 128 * (t / 2 ^ length g % 2)) ∷ joined t g
+joined t (b ∷ g) = (valueOf b + 128 * (t / 2 ^ length g % 2)) ∷ joined t g
 
 -- the k data bytes of the group that p begins with: k bytes of low bits, then the byte of the top bits
 unfoldable pub unpackedGroup : ℕ → List ℕ → List ℕ
-unpackedGroup k p = joined (getD p k 0 % 128 / 2 ^ lastPlace k) (take k p)
+unpackedGroup k p = joined (valueOf (getD p k 0) / 2 ^ lastPlace k) (take k p)
 
 -- the data bytes of the first n groups of p
 unfoldable pub unpackedGroups : ℕ → List ℕ → List ℕ
@@ -37,7 +37,7 @@ unusedClear k v = eqb (v / 2 ^ lastPlace k % 2 ^ k * 2 ^ lastPlace k) v
 
 -- a packed length of n is not 1 modulo 8, and the last byte b sets no unused place; the last group has (n + 7) % 8 data bytes
 unfoldable pub wellEnded : ℕ → ℕ → Bool
-wellEnded n b = not (eqb (n % 8) 1) && unusedClear ((n + 7) % 8) (b % 128)
+wellEnded n b = not (eqb (n % 8) 1) && unusedClear ((n + 7) % 8) (valueOf b)
 
 -- none of the reasons for refusal 13 holds
 unfoldable pub wellPacked : List ℕ → Bool

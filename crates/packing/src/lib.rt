@@ -7,7 +7,7 @@ ghost use Prim.Native.Nat.{_+_, _*_, _/_, _%_, _^_, _<_, _≤_};
 ghost use lib.ListN.{length, take, drop};
 ghost use lib.Seq.{sets};
 ghost use Rattle.framing.specs.Answer.{outcomeOf, storedAt};
-ghost use Rattle.packing.specs.Seven.{sent, isSent};
+ghost use Rattle.packing.specs.Seven.{sent, isSent, valueOf};
 ghost use Rattle.packing.specs.Packed.{lastPlace, packedGroup, packed, packedLength};
 ghost use Rattle.packing.specs.Unpacked.{unpackedGroup, dataOf, allSent, unusedClear, wellEnded, wellPacked};
 ghost use Rattle.packing.specs.Contract.{unpackedIn};
@@ -24,6 +24,13 @@ pub fn is_sent(b: u8) -> bool
     ensures { λ r. ⌜ r ≡ isSent b ⌝ }
 {
     1 <= b && b <= 128
+}
+
+// The seven-bit value that a byte stands for.
+pub fn value_of(b: u8) -> u8
+    ensures { λ r. ⌜ r ≡ valueOf b ⌝ }
+{
+    b % 128
 }
 
 // The place of the last byte's top bit in a group of k bytes.

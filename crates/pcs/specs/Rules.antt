@@ -1,12 +1,12 @@
 -- The rules of the PCS receiver: what each byte does, over the gathered bytes as a list, with no store.
-use Prim.Native.Nat.{ℕ, _+_, _-_, _*_, _%_}
+use Prim.Native.Nat.{ℕ, _+_, _-_, _*_}
 use mathlib.Core.Bool.{Bool, cond, _&&_}
 use mathlib.Core.List.{List, [], _∷_, _++_}
 use mathlib.Core.Option.{Option, none, some}
 use lib.ListN.{length, getD, take, drop}
 use lib.Dec.{eqb, leb, ltb}
 use Rattle.framing.specs.Segment.{Segment, noise, refused, accepted}
-use Rattle.packing.specs.Seven.{isSent}
+use Rattle.packing.specs.Seven.{isSent, valueOf}
 use Rattle.packing.specs.Unpacked.{unpacked}
 use Rattle.checksum.specs.Sum.{sumOf}
 use Rattle.pcs.specs.Frame.{Message, plainOk, receiverOk, kindOk}
@@ -31,7 +31,7 @@ held (inside g) = 253 ∷ g
 
 -- the stated length, seven bits a byte; the packed bytes, between the header and the sum
 abbrev pub stated : List ℕ → ℕ
-stated g = getD g 4 0 % 128 * 128 + getD g 5 0 % 128
+stated g = valueOf (getD g 4 0) * 128 + valueOf (getD g 5 0)
 
 abbrev pub packedPart : List ℕ → List ℕ
 packedPart g = take (length g - 9) (drop 8 g)

@@ -2,8 +2,9 @@
 use super::Message;
 ghost use mathlib.Core.Path.{_≡_};
 ghost use mathlib.Core.Bool.{_&&_};
-ghost use Prim.Native.Nat.{_+_, _-_, _*_, _%_};
+ghost use Prim.Native.Nat.{_+_, _-_, _*_};
 ghost use lib.Dec.{leb};
+ghost use Rattle.packing.specs.Seven.{valueOf};
 ghost use Rattle.pcs.specs.Frame.{plainOk, receiverOk, kindOk};
 ghost use Rattle.pcs.specs.Steps.{plainFieldsOk};
 
@@ -61,7 +62,7 @@ pub fn kind_of(info: u8) -> u8
 
 // The length that two bytes state, seven bits each.
 pub fn stated_by(high: u8, low: u8) -> usize
-    ensures { λ r. ⌜ r ≡ high % 128 * 128 + low % 128 ⌝ }
+    ensures { λ r. ⌜ r ≡ valueOf high * 128 + valueOf low ⌝ }
 {
-    (high % 128) as usize * 128 + (low % 128) as usize
+    packing::value_of(high) as usize * 128 + packing::value_of(low) as usize
 }
