@@ -12,7 +12,7 @@ use lib.ListN.{length, getD, take, drop, set, length-drop, drop-of-length-le}
 use lib.Seq.{sets, getD-drop, drop-drop, length-take-le}
 use borrow.Author.Tests.{le-leb, lt-ltb, ltb-true, eqb-true, eq-eqb, leb-true}
 use Rattle.runs.specs.Runs.{between, before}
-use Rattle.runs.proofs.Bytes.{drop-next, part-rest}
+use Rattle.runs.proofs.Bytes.{drop-next}
 use Rattle.runs.proofs.Cases.{by-test, and-both}
 use Rattle.runs.proofs.Before.{first-not, before-within, before-rest}
 use Rattle.runs.proofs.Run.{Run, run-start, run-part, run-end}
@@ -162,13 +162,10 @@ module _ (escapes : Escapes) where
           passed = omega (arith, g .passed, b .used, ap (λ (r : ℕ). unhideBy escapes r (drop (i + m) wire) .1) less);
         }
 
-    -- bytes that mean themselves, as a function that is lent the rest of the run has it
+    -- bytes that mean themselves
     pub reading-run : (out out' : List ℕ) (count i n : ℕ) → Reading wire d at most out count i → n ≤ most - count
-        → n ≤ before low high (take (length wire - i) (drop i wire)) → out' ≡ sets out (at + count) (take n (take (length wire - i) (drop i wire)))
-        → Reading wire d at most out' (count + n) (i + n)
-    reading-run out out' count i n g h l e =
-        let rest = part-rest wire i in
-        let few : n ≤ before low high (drop i wire) = subst (λ (s : List ℕ). n ≤ before low high s) rest l in
+        → n ≤ before low high (drop i wire) → out' ≡ sets out (at + count) (take n (drop i wire)) → Reading wire d at most out' (count + n) (i + n)
+    reading-run out out' count i n g h few e =
         let long : length (take n (drop i wire)) ≡ n = length-take-le n (drop i wire) (omega (arith, few, before-within low high (drop i wire))) in
         let there : i + n ≤ length wire = omega (arith, few, before-within low high (drop i wire), length-drop i wire) in
         let part = take n (drop i wire) in
@@ -177,13 +174,11 @@ module _ (escapes : Escapes) where
         subst (λ (x : List ℕ × ℕ). Behind part n x all) (ap₂ (λ (k : ℕ) (l : List ℕ). unhideBy escapes (most - count - k) l) (sym long) (drop-drop n i wire))
         (plain-run n (most - count) (drop i wire) few h) in
         subst (λ (k : ℕ). Reading wire d at most out' (count + k) (i + n)) long
-        (reading-more out out' part count i n g (omega (arith, long, g .some)) there run
-        (e ∙ ap (λ (s : List ℕ). sets out (at + count) (take n s)) rest))
+        (reading-more out out' part count i n g (omega (arith, long, g .some)) there run e)
 
     -- all of them were read: what follows is no such byte
-    pub run-over : (i n : ℕ) → n ≡ before low high (take (length wire - i) (drop i wire)) → before low high (drop (i + n) wire) ≡ 0
-    run-over i n e =
-        let all : n ≡ before low high (drop i wire) = e ∙ ap (before low high) (part-rest wire i) in
+    pub run-over : (i n : ℕ) → n ≡ before low high (drop i wire) → before low high (drop (i + n) wire) ≡ 0
+    run-over i n all =
         ap (before low high) (sym (drop-drop n i wire)) ∙ ap (λ (k : ℕ). before low high (drop k (drop i wire))) all ∙ before-rest low high (drop i wire)
 
     -- a hidden byte

@@ -2,11 +2,11 @@
 ghost use mathlib.Core.Path.{_≡_};
 ghost use Prim.Native.Nat.{_+_, _-_, _≤_, min};
 ghost use lib.Dec.{leb};
-ghost use lib.ListN.{length};
+ghost use lib.ListN.{length, take, drop};
 ghost use lib.Seq.{sets};
 ghost use Rattle.framing.specs.Answer.{outcomeOf, storedAt};
 ghost use Rattle.escape.specs.Code.{meaningOf, hide, unhideInto};
-ghost use Rattle.runs.specs.Runs.{each};
+ghost use Rattle.runs.specs.Runs.{each, before};
 ghost use Rattle.escape.specs.Dle.{dle};
 ghost use Rattle.escape.specs.Expansion.{expansion};
 ghost use Rattle.escape.specs.Form.{hides, runOf, uncodes, pairAt, unhideBy};
@@ -212,6 +212,32 @@ fn is_pair(escapes: Escapes, wire: &[u8], at: usize) -> bool
     }
 }
 
+// Stores the wire bytes from a place on that mean themselves, up to the first that does not and so many at most, and tells how many.
+fn copy_plain(
+    escapes: Escapes,
+    wire: &[u8],
+    from: usize,
+    out: &mut [u8],
+    at: usize,
+    most: usize,
+) -> usize
+    requires { ⌜ (from ≤ length (now wire)) × (at + most ≤ length (now out)) ⌝ }
+    ensures count { λ r. ⌜ r ≡ min most (before (escapes .first) (escapes .escape) (drop from (now (wire .entry)))) ⌝ }
+    ensures put { λ r. ⌜ now (out .exit) ≡ sets (now (out .entry)) at (take r (drop from (now (wire .entry)))) ⌝ }
+{
+    let stop = runs::least(most, wire.len() - from);
+    let mut k = 0;
+    while k < stop {
+        let byte = wire[from + k];
+        if is_hidden(escapes, byte) {
+            return k;
+        }
+        out[at + k] = byte;
+        k += 1;
+    }
+    k
+}
+
 // Stores what wire bytes stand for from a place on, as many bytes as come whole and so many at most.
 fn unhide_by(escapes: Escapes, wire: &[u8], out: &mut [u8], at: usize, most: usize) -> Unhidden
     requires { ⌜ (escapes .first ≤ escapes .escape) × (at + most ≤ length (now out)) ⌝ }
@@ -222,14 +248,7 @@ fn unhide_by(escapes: Escapes, wire: &[u8], out: &mut [u8], at: usize, most: usi
     let mut count: usize = 0;
     let mut i: usize = 0;
     loop {
-        let n = runs::copy_before(
-            escapes.first,
-            escapes.escape,
-            &wire[i..],
-            out,
-            at + count,
-            most - count,
-        );
+        let n = copy_plain(escapes, wire, i, out, at + count, most - count);
         count += n;
         i += n;
         if count == most {

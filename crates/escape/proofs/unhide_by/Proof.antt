@@ -1,7 +1,7 @@
 use Prim.Native.Nat.{ℕ, _+_, _-_, _<_}
 use mathlib.Core.Path.{_≡_, sym, ap, _∙_}
 use native.Mathlib.Omega.{arith}
-use lib.ListN.{length, take, drop}
+use lib.ListN.{length, drop}
 use Rattle.runs.specs.Runs.{before}
 use Rattle.escape.specs.Form.{unhideBy}
 use Rattle.escape.proofs.Unhide.{Reading, reading-start, reading-run, reading-pair, reading-end, run-over, pair-parts, pair-top, stops}
@@ -18,37 +18,28 @@ closer : (m i n : ℕ) → i + n + 1 < m → m - (i + n + 2) < m - i
 closer m i n h = omega arith
 
 -- what holds once a run of bytes that mean themselves is stored
-copied : (c : tie.After-copy-before Inv-loop μ-loop) →
-    let l = c .before .before .before in
+copied : (c : tie.After-copy-plain Inv-loop μ-loop) →
+    let l = c .before .before in
     let a = l .before .before .before .args in
-    let n = c .copy-before .result in
-    Reading (a .escapes) (a .wire .now) (a .out .now) (a .at) (a .most) (c .copy-before .last .1 .1 .1 .0) (l .loop .count + n) (l .loop .i + n)
+    let n = c .copy-plain .result in
+    Reading (a .escapes) (a .wire .now) (a .out .now) (a .at) (a .most) (c .copy-plain .last .1 .1 .1 .0) (l .loop .count + n) (l .loop .i + n)
 copied c =
-    let l = c .before .before .before in
+    let l = c .before .before in
     let a = l .before .before .before .args in
-    let h = c .copy-before .ensures in
-    reading-run (a .escapes) (a .wire .now) (a .out .now) (a .at) (a .most) _ _ _ _ _ (l .loop .inv) (h .1 .0 .0) (omega (arith, h .0)) (h .1 .1)
+    let h = c .copy-plain .ensures in
+    reading-run (a .escapes) (a .wire .now) (a .out .now) (a .at) (a .most) _ _ _ _ _ (l .loop .inv) (omega (arith, h .0)) (omega (arith, h .0)) (h .1)
 
 loop-holds : tie.Need-loop-holds Inv-loop μ-loop
 loop-holds c = let s = c .before .before in reading-start (s .args .escapes) (s .args .wire .now) (s .args .out .now) (s .args .at) (s .args .most) (s .pre .1)
 
-sub-copy-before : tie.Need-sub-copy-before Inv-loop μ-loop
-sub-copy-before c = omega arith
+add-copy-plain : tie.Need-add-copy-plain Inv-loop μ-loop
+add-copy-plain c = omega arith
 
-part-copy-before-start : tie.Need-part-copy-before-start Inv-loop μ-loop
-part-copy-before-start c = omega arith
+sub-copy-plain : tie.Need-sub-copy-plain Inv-loop μ-loop
+sub-copy-plain c = omega arith
 
-part-copy-before-end : tie.Need-part-copy-before-end Inv-loop μ-loop
-part-copy-before-end c = omega arith
-
-add-copy-before : tie.Need-add-copy-before Inv-loop μ-loop
-add-copy-before c = omega arith
-
-sub-copy-before-2 : tie.Need-sub-copy-before-2 Inv-loop μ-loop
-sub-copy-before-2 c = omega arith
-
-copy-before-requires : tie.Need-copy-before-requires Inv-loop μ-loop
-copy-before-requires c κs = tt
+copy-plain-requires : tie.Need-copy-plain-requires Inv-loop μ-loop
+copy-plain-requires c κs = let g = c .before .loop .inv in (g .there, omega (arith, g .some, g .stored .long))
 
 add-count : tie.Need-add-count Inv-loop μ-loop
 add-count c = omega arith
@@ -63,11 +54,11 @@ returns : tie.Need-returns Inv-loop μ-loop
 unfolding unhideBy
 returns c =
     let f = c .before .before .before in
-    let l = f .before .before .before in
+    let l = f .before .before in
     let a = l .before .before .before .args in
-    let none : a .most - (l .loop .count + f .copy-before .result) ≡ 0 = omega (arith, c .if1 .taken) in
+    let none : a .most - (l .loop .count + f .copy-plain .result) ≡ 0 = omega (arith, c .if1 .taken) in
     reading-end (a .escapes) (a .wire .now) (a .out .now) (a .at) (a .most) _ _ _ (copied f)
-    (ap (λ (r : ℕ). unhideBy (a .escapes) r (drop (l .loop .i + f .copy-before .result) (a .wire .now))) none)
+    (ap (λ (r : ℕ). unhideBy (a .escapes) r (drop (l .loop .i + f .copy-plain .result) (a .wire .now))) none)
 
 is-pair-requires : tie.Need-is-pair-requires Inv-loop μ-loop
 is-pair-requires c κs = copied (c .before .before .before) .there
@@ -78,13 +69,13 @@ same-length-2 c = copied (c .before .before .before .before .before) .stored .lo
 returns-2 : tie.Need-returns-2 Inv-loop μ-loop
 returns-2 c =
     let f = c .before .before .before .before .before in
-    let l = f .before .before .before in
+    let l = f .before .before in
     let s = l .before .before .before in
     let a = s .args in
     let g = copied f in
     let i = l .loop .i in
-    let n = f .copy-before .result in
-    let all : n ≡ before (a .escapes .first) (a .escapes .escape) (take (length (a .wire .now) - i) (drop i (a .wire .now))) = omega (arith, f .copy-before .ensures .0, g .some, c .before .before .if1 .left, s .pre .1, l .loop .inv .stored .long) in
+    let n = f .copy-plain .result in
+    let all : n ≡ before (a .escapes .first) (a .escapes .escape) (drop i (a .wire .now)) = omega (arith, f .copy-plain .ensures .0, g .some, c .before .before .if1 .left, s .pre .1, l .loop .inv .stored .long) in
     reading-end (a .escapes) (a .wire .now) (a .out .now) (a .at) (a .most) _ _ _ g
     (stops (a .escapes) _ (a .wire .now) (i + n) (g .there) (run-over (a .escapes) (a .wire .now) (a .out .now) (a .at) (a .most) i n all) (sym (c .before .is-pair .ensures) ∙ c .if2 .left))
 
@@ -94,16 +85,16 @@ add-out c = omega arith
 shared-slice-read-out : tie.Need-shared-slice-read-out Inv-loop μ-loop
 shared-slice-read-out c =
     let f = c .before .before .before .before .before .before in
-    let l = f .before .before .before in
+    let l = f .before .before in
     let a = l .before .before .before .args in
-    pair-parts (a .escapes) (a .wire .now) (l .loop .i + f .copy-before .result) (sym (c .before .before .is-pair .ensures) ∙ c .before .if2 .taken) .0
+    pair-parts (a .escapes) (a .wire .now) (l .loop .i + f .copy-plain .result) (sym (c .before .before .is-pair .ensures) ∙ c .before .if2 .taken) .0
 
 sub-out : tie.Need-sub-out Inv-loop μ-loop
 sub-out c =
     let f = c .before .before .before .before .before .before .before in
-    let l = f .before .before .before in
+    let l = f .before .before in
     let a = l .before .before .before .args in
-    pair-top (a .escapes) (a .wire .now) (l .loop .i + f .copy-before .result) (sym (c .before .before .before .is-pair .ensures) ∙ c .before .before .if2 .taken)
+    pair-top (a .escapes) (a .wire .now) (l .loop .i + f .copy-plain .result) (sym (c .before .before .before .is-pair .ensures) ∙ c .before .before .if2 .taken)
 
 add-out-2 : tie.Need-add-out-2 Inv-loop μ-loop
 add-out-2 c = omega arith
@@ -120,15 +111,15 @@ add-i-2 c = omega arith
 loop-less : tie.Need-loop-less Inv-loop μ-loop
 loop-less c =
     let f = c .before .before .before .before .before .before .before in
-    let l = f .before .before .before in
+    let l = f .before .before in
     let a = l .before .before .before .args in
-    let there = pair-parts (a .escapes) (a .wire .now) (l .loop .i + f .copy-before .result) (sym (c .before .before .before .is-pair .ensures) ∙ c .before .before .if2 .taken) .0 in
-    closer (length (a .wire .now)) (l .loop .i) (f .copy-before .result) there
+    let there = pair-parts (a .escapes) (a .wire .now) (l .loop .i + f .copy-plain .result) (sym (c .before .before .before .is-pair .ensures) ∙ c .before .before .if2 .taken) .0 in
+    closer (length (a .wire .now)) (l .loop .i) (f .copy-plain .result) there
 
 loop-again : tie.Need-loop-again Inv-loop μ-loop
 loop-again c =
     let f = c .before .before .before .before .before .before .before in
-    let l = f .before .before .before in
+    let l = f .before .before in
     let s = l .before .before .before in
     let a = s .args in
     reading-pair (a .escapes) (a .wire .now) (a .out .now) (a .at) (a .most) _ _ _ (s .pre .0) (copied f) (omega (arith, copied f .some, c .before .before .before .before .if1 .left)) (sym (c .before .before .before .is-pair .ensures) ∙ c .before .before .if2 .taken)
@@ -140,12 +131,9 @@ unhide-by-spec =
     Inv-loop
     μ-loop
     loop-holds
-    sub-copy-before
-    part-copy-before-start
-    part-copy-before-end
-    add-copy-before
-    sub-copy-before-2
-    copy-before-requires
+    add-copy-plain
+    sub-copy-plain
+    copy-plain-requires
     add-count
     add-i
     same-length

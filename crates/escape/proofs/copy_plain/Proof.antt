@@ -1,0 +1,111 @@
+use Prim.Native.Nat.{_+_, _-_, _≤_, _<_, min}
+use mathlib.Core.Path.{_≡_, refl, ap, sym, _∙_}
+use native.Mathlib.Omega.{arith}
+use lib.ListN.{length, take, drop, set, length-set, length-drop}
+use lib.Seq.{sets, getD-drop}
+use Rattle.runs.specs.Runs.{before}
+use Rattle.runs.proofs.Before.{before-within, before-mark, before-next}
+use Rattle.runs.proofs.Run.{sets-more}
+use Rattle.escape.specs.Form.{hides}
+use Rattle.escape.proofs.copy_plain.Statement.{statement}
+use Rattle.escape.proofs.copy_plain.Tie as tie
+
+abbrev Inv-loop : tie.InvT-loop
+Inv-loop escapes wire from out₀ at most stop k₀ out k =
+    (k ≤ stop) × (stop ≡ min most (length wire - from)) × (length out ≡ length out₀) × (out ≡ sets out₀ at (take k (drop from wire)))
+    × (k + before (escapes .first) (escapes .escape) (drop k (drop from wire)) ≡ before (escapes .first) (escapes .escape) (drop from wire))
+
+abbrev μ-loop : tie.MeasureT-loop
+μ-loop escapes wire from out₀ at most stop k₀ out k = stop - k
+
+sub-least : tie.Need-sub-least Inv-loop μ-loop
+sub-least c = omega arith
+
+least-requires : tie.Need-least-requires Inv-loop μ-loop
+least-requires c κs = tt
+
+loop-holds : tie.Need-loop-holds Inv-loop μ-loop
+loop-holds c = (omega arith, c .least .ensures, refl, refl, omega arith)
+
+add-byte : tie.Need-add-byte Inv-loop μ-loop
+add-byte c = omega arith
+
+shared-slice-read-byte : tie.Need-shared-slice-read-byte Inv-loop μ-loop
+shared-slice-read-byte c = omega arith
+
+is-hidden-requires : tie.Need-is-hidden-requires Inv-loop μ-loop
+is-hidden-requires c κs = tt
+
+same-length : tie.Need-same-length Inv-loop μ-loop
+same-length c = omega arith
+
+returns : tie.Need-returns Inv-loop μ-loop
+returns c =
+    let l = c .before .before .before .before in
+    let a = l .before .before .before .before .args in
+    let rest = drop (a .from) (a .wire .now) in
+    let k = l .loop .k in
+    let here = ap (hides (a .escapes)) (getD-drop (a .from) (a .wire .now) k 0) ∙ sym (c .before .is-hidden .ensures) ∙ c .if1 .taken in
+    let m = before-mark (a .escapes .first) (a .escapes .escape) rest k (omega (arith, length-drop (a .from) (a .wire .now))) here in
+    (omega (arith, l .loop .inv, m), l .loop .inv .3)
+
+add-out : tie.Need-add-out Inv-loop μ-loop
+add-out c = omega arith
+
+slice-write-out : tie.Need-slice-write-out Inv-loop μ-loop
+slice-write-out c = omega arith
+
+add-k : tie.Need-add-k Inv-loop μ-loop
+add-k c = omega arith
+
+loop-less : tie.Need-loop-less Inv-loop μ-loop
+loop-less c = omega arith
+
+loop-again : tie.Need-loop-again Inv-loop μ-loop
+loop-again c =
+    let l = c .before .before .before .before in
+    let a = l .before .before .before .before .args in
+    let rest = drop (a .from) (a .wire .now) in
+    let k = l .loop .k in
+    let h = l .loop .inv in
+    let less : k < length rest = omega (arith, length-drop (a .from) (a .wire .now)) in
+    let here = getD-drop (a .from) (a .wire .now) k 0 in
+    let plain = ap (hides (a .escapes)) here ∙ sym (c .before .is-hidden .ensures) ∙ c .if1 .left in (
+      omega arith,
+      h .1,
+      simp length-set (h .2),
+      rw (h .3) (ap (set (sets (a .out .now) (a .at) (take k rest)) (a .at + k)) (sym here) ∙ sym (sets-more (a .out .now) (a .at) rest k 0 less)),
+      omega (arith, h .4, before-next (a .escapes .first) (a .escapes .escape) rest k less plain),
+    )
+
+same-length-2 : tie.Need-same-length-2 Inv-loop μ-loop
+same-length-2 c = omega arith
+
+returns-2 : tie.Need-returns-2 Inv-loop μ-loop
+returns-2 c =
+    let l = c .before in
+    let a = l .before .before .before .before .args in
+    let rest = drop (a .from) (a .wire .now) in
+    (omega (arith, l .loop .inv, before-within (a .escapes .first) (a .escapes .escape) rest, length-drop (a .from) (a .wire .now)), l .loop .inv .3)
+
+pub copy-plain-spec : {M : Type 1} → statement M
+copy-plain-spec =
+    tie.close
+    (tie.spec
+    Inv-loop
+    μ-loop
+    sub-least
+    least-requires
+    loop-holds
+    add-byte
+    shared-slice-read-byte
+    is-hidden-requires
+    same-length
+    returns
+    add-out
+    slice-write-out
+    add-k
+    loop-less
+    loop-again
+    same-length-2
+    returns-2)
