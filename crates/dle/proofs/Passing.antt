@@ -1,11 +1,11 @@
 -- Bytes of a piece that are passed at once: noise, and bytes of an open frame.
 use Prim.Native.Nat.{ℕ, _+_, _-_, _%_, _^_, _≤_, _<_}
-use mathlib.Core.Path.{_≡_, ap, sym, _∙_}
+use mathlib.Core.Path.{_≡_, refl, ap, sym, _∙_, subst}
 use mathlib.Core.Bool.{true, false}
 use mathlib.Core.List.{List, [], _∷_, _++_}
 use mathlib.Core.Option.{Option, none}
 use native.Mathlib.Omega.{arith}
-use lib.ListN.{length, take, drop, set}
+use lib.ListN.{length, getD, take, drop, set}
 use lib.Seq.{length-take-le}
 use lib.Dec.{ltb}
 use borrow.Author.Tests.{lt-ltb, eq-eqb, ne-eqb}
@@ -20,7 +20,7 @@ use Rattle.framing.specs.Link.{Lent, stepOn}
 use Rattle.framing.specs.Passing.{Leads}
 use Rattle.framing.specs.declared.State.{State}
 use Rattle.framing.proofs.States.{noise-mode, noise-next}
-use Rattle.framing.proofs.Passing.{leads-before}
+use Rattle.framing.proofs.Passing.{leads-then, leads-byte, leads-before}
 use Rattle.dle.specs.Frame.{Message}
 use Rattle.dle.specs.Rules.{Phase, inside, size, gathered, held, cut}
 use Rattle.dle.specs.Contract.{modeOf, link}
@@ -35,6 +35,17 @@ pub leads-hunting : (piece : List ℕ) (s : State) (store : List ℕ) (i n : ℕ
 leads-hunting piece s store i n e h l =
     leads-before link piece 0x10 0x10 (afterNoise s) store i n h (omega arith)
     (λ k b q. noise-step store (afterNoise s k) b (noise-mode s k e) q ∙ ap (λ (x : State). ((x, store), none)) (noise-next s k e))
+
+-- hunting, 10 02 opens a frame
+pub leads-start : (piece : List ℕ) (s : State) (store : List ℕ) (i : ℕ) → s .mode ≡ 0 → i + 1 < length piece → getD piece i 0 ≡ 0x10 → getD piece (i + 1) 0 ≡ 0x02
+    → Leads link piece (s, store) i (opened 0 2 (s .noise), store) (i + 2)
+leads-start piece s store i m h e f =
+    let half : Lent link = (record { mode = 1; count = 0; «open» = 1; noise = s .noise }, store) in
+    let first : stepOn link (s, store) (getD piece i 0) ≡ (half, none) = rw (e, eq-eqb (s .mode) 0 m) (rw (eq-eqb (s .mode) 0 m)) in
+    let second : stepOn link half (getD piece (i + 1) 0) ≡ ((opened 0 2 (s .noise), store), none) = rw f in
+    let next : i + 1 + 1 ≡ i + 2 = omega arith in
+    subst (Leads link piece (s, store) i (opened 0 2 (s .noise), store)) next
+    (leads-then link piece (leads-byte link piece (s, store) half i (omega arith) refl first) (leads-byte link piece half (opened 0 2 (s .noise), store) (i + 1) h refl second))
 
 -- an open frame with a 10 waiting
 abbrev waiting : ℕ → ℕ → ℕ → State

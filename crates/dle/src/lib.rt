@@ -302,6 +302,42 @@ fn pass_bytes(state: State, store: &mut [u8], piece: &[u8], from: usize) -> Reac
     }
 }
 
+// The start mark, where it lies whole at a place: hunting, it opens a frame. Else nothing is passed.
+fn pass_start(state: State, piece: &[u8], from: usize) -> Reached
+    requires { ⌜ (state .mode ≡ 0) × (state .count ≤ size) × (from ≤ length (now piece)) ⌝ }
+    ensures { λ r. ⌜ ((store : List ℕ) → Passes (now (piece .entry)) (state, store) from r store) ⌝ }
+{
+    if from + 1 < piece.len() {
+        if piece[from] == 0x10 {
+            if piece[from + 1] == 0x02 {
+                return Reached {
+                    state: framing::reopen(state, 2, 0, 2),
+                    next: from + 2,
+                };
+            }
+        }
+    }
+    Reached {
+        state: state,
+        next: from,
+    }
+}
+
+// Hunting: the noise up to the next 10 and, where that starts a frame, its mark and its bytes.
+fn pass_to_frame(state: State, store: &mut [u8], piece: &[u8], from: usize) -> Reached
+    requires { ⌜ (state .mode ≡ 0) × (state .count ≤ size) × (size ≤ length (now store)) × (from ≤ length (now piece)) ⌝ }
+    ensures { λ r. ⌜ Passes (now (piece .entry)) (state, now (store .entry)) from r (now (store .exit)) ⌝ }
+{
+    let noise = framing::pass_hunting(state, piece, from, 0x10);
+    let start = pass_start(noise.state, piece, noise.next);
+    let opened = start.state;
+    if opened.mode == 2 {
+        pass_bytes(opened, store, piece, start.next)
+    } else {
+        start
+    }
+}
+
 // The bytes that are passed at once: noise, or bytes of an open frame with no 10 waiting.
 fn advance(state: State, store: &mut [u8], piece: &[u8], from: usize) -> Reached
     requires { ⌜ (state .count ≤ size) × (size ≤ length (now store)) × (from ≤ length (now piece)) ⌝ }
@@ -309,7 +345,7 @@ fn advance(state: State, store: &mut [u8], piece: &[u8], from: usize) -> Reached
 {
     let mode = state.mode;
     if mode == 0 {
-        return framing::pass_hunting(state, piece, from, 0x10);
+        return pass_to_frame(state, store, piece, from);
     }
     if mode == 2 {
         return pass_bytes(state, store, piece, from);

@@ -1,35 +1,21 @@
 use borrow.Author.Needs.{needs}
-use native.Mathlib.Omega.{arith}
-use Prim.Native.Nat.{_≤_}
-use mathlib.Core.Path.{ap, sym}
-use lib.ListN.{drop}
-use Rattle.runs.specs.Runs.{before}
-use Rattle.runs.proofs.Bytes.{part-rest}
-use Rattle.runs.proofs.Cases.{by-eqb}
-use Rattle.framing.specs.declared.State.{State}
-use Rattle.dle.specs.Rules.{size}
-use Rattle.dle.proofs.Passing.{leads-hunting}
 use Rattle.dle.proofs.advance.Statement.{statement}
 use Rattle.dle.proofs.advance.Tie as tie
 
-pass-hunting-requires : tie.Need-pass-hunting-requires
-pass-hunting-requires c κs = search needs
+pass-to-frame-requires : tie.Need-pass-to-frame-requires
+pass-to-frame-requires c κs = search needs
+
+same-length : tie.Need-same-length
+same-length c = search needs
 
 returns : tie.Need-returns
-returns c =
-    let s = c .before .before .before .before in
-    let a = s .args in
-    let n = before 0x10 0x10 (drop (a .from) (a .piece .now)) in
-    rw (c .pass-hunting .ensures) (record {
-      leads = leads-hunting (a .piece .now) (a .state) (a .store .now) (a .from) n (c .before .if1 .taken) (s .pre .2) (ap (before 0x10 0x10) (sym (part-rest (a .piece .now) (a .from))));
-      count = by-eqb (λ (x : State). x .count ≤ size) n 0 (λ _. s .pre .0) (λ _. omega arith);
-    })
+returns c = search needs
 
 pass-bytes-requires : tie.Need-pass-bytes-requires
 pass-bytes-requires c κs = search needs
 
-same-length : tie.Need-same-length
-same-length c = search needs
+same-length-2 : tie.Need-same-length-2
+same-length-2 c = search needs
 
 returns-2 : tie.Need-returns-2
 returns-2 c = search needs
@@ -40,4 +26,4 @@ returns-3 c = search needs
 pub advance-spec : {M : Type 1} → statement M
 advance-spec =
     tie.close
-    (tie.spec pass-hunting-requires returns pass-bytes-requires same-length returns-2 returns-3)
+    (tie.spec pass-to-frame-requires same-length returns pass-bytes-requires same-length-2 returns-2 returns-3)
