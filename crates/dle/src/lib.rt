@@ -27,6 +27,7 @@ ghost use Rattle.dle.specs.Steps.{Answers, Open, Passes};
 const SIZE: usize = 258;
 
 // An accepted message: length 0 marks an error message with its error byte; else so much data lies in the store from place 3.
+// Sequence and node do not stand side by side: they would be loaded together where they were stored apart, which takes longer.
 pub struct Message {
     pub sequence: u8,
     pub length: u8,
