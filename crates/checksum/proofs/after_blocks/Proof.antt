@@ -9,6 +9,7 @@ use Rattle.checksum.proofs.Braids.{both, braid-start, braid-next}
 use Rattle.checksum.proofs.after_blocks.Statement.{statement}
 use Rattle.checksum.proofs.after_blocks.Tie as tie
 
+-- a block of 24 bytes is left from i on; where the table is that of p, the six registers stand for the register after the first i bytes
 abbrev Inv-loop : tie.InvT-loop
 Inv-loop table start bytes a₀ b₀ c₀ d₀ e₀ f₀ i₀ a b c d e f i =
     (i + 24 ≤ length bytes) × ((p : ℕ) → BraidTable p table → Braided p start bytes i (a ∷ b ∷ c ∷ d ∷ e ∷ f ∷ []))

@@ -10,6 +10,7 @@ use Rattle.checksum.proofs.Run.{bytes-start, bytes-next, bytes-end}
 use Rattle.checksum.proofs.after_bytes.Statement.{statement}
 use Rattle.checksum.proofs.after_bytes.Tie as tie
 
+-- where the table is that of p: i lies within the bytes, and c leads over those from i on to what start leads to over all
 abbrev Inv-loop : tie.InvT-loop
 Inv-loop table start bytes c₀ i₀ c i = (p : ℕ) → NibbleTable p table → AfterBytes p start bytes i c
 

@@ -7,6 +7,8 @@ use Rattle.checksum.proofs.Run.{bytes-start, bytes-word}
 use Rattle.checksum.proofs.after_words.Statement.{statement}
 use Rattle.checksum.proofs.after_words.Tie as tie
 
+-- i is not past whole; i is a multiple of four; whole is the length of the whole words;
+-- where the table is that of p: i lies within the bytes, and c leads over those from i on to what start leads to over all
 abbrev Inv-loop : tie.InvT-loop
 Inv-loop table start bytes whole c₀ i₀ c i =
     (i ≤ whole) × (i % 4 ≡ 0) × (whole ≡ length bytes / 4 * 4) × ((p : ℕ) → NibbleTable p table → AfterBytes p start bytes i c)

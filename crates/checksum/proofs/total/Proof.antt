@@ -9,6 +9,7 @@ use Rattle.checksum.specs.Sum.{totalOf}
 use Rattle.checksum.proofs.total.Statement.{statement}
 use Rattle.checksum.proofs.total.Tie as tie
 
+-- i lies within the bytes; r is a byte; r and the sum of the bytes from i on are the total, modulo 256
 abbrev Inv-loop : tie.InvT-loop
 Inv-loop bytes r₀ i₀ r i = (i ≤ length bytes) × (r < 256) × ((r + sum _+_ 0 (drop i bytes)) % 256 ≡ totalOf bytes)
 

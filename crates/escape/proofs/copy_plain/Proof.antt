@@ -10,6 +10,8 @@ use Rattle.escape.specs.Form.{hides}
 use Rattle.escape.proofs.copy_plain.Statement.{statement}
 use Rattle.escape.proofs.copy_plain.Tie as tie
 
+-- k is not past stop; stop is the lesser of most and the wire bytes left; out keeps its length; it has the first k of these bytes stored;
+-- k and the bytes from there to the first that does not mean itself are as many as from the start to it
 abbrev Inv-loop : tie.InvT-loop
 Inv-loop escapes wire from out₀ at most stop k₀ out k =
     (k ≤ stop) × (stop ≡ min most (length wire - from)) × (length out ≡ length out₀) × (out ≡ sets out₀ at (take k (drop from wire)))

@@ -9,6 +9,7 @@ use Rattle.runs.proofs.Each.{each-next, each-length}
 use Rattle.escape.proofs.put_bytes.Statement.{statement}
 use Rattle.escape.proofs.put_bytes.Tie as tie
 
+-- i lies within the bytes; the first n wire bytes are stored from place at on, and those of the bytes from i on are still to come
 abbrev Inv-loop : tie.InvT-loop
 Inv-loop escapes bytes out₀ at n₀ i₀ out n i =
     (i ≤ length bytes) × Run out₀ at (each (runOf escapes) bytes) n (each (runOf escapes) (drop i bytes)) out

@@ -8,6 +8,8 @@ use Rattle.escape.proofs.Unhide.{Reading, reading-start, reading-run, r
 use Rattle.escape.proofs.unhide_by.Statement.{statement}
 use Rattle.escape.proofs.unhide_by.Tie as tie
 
+-- count is at most most; i lies within the wire; count bytes are stored, and what the wire from i on stands for is still to come;
+-- i and the wire bytes still to be used are all that the call uses
 abbrev Inv-loop : tie.InvT-loop
 Inv-loop escapes wire out₀ at most count₀ i₀ out count i = Reading escapes wire out₀ at most out count i
 

@@ -4,6 +4,7 @@ use borrow.Author.Needs.{needs}
 use Rattle.listing.proofs.list_all.Statement.{statement}
 use Rattle.listing.proofs.list_all.Tie as tie
 
+-- the store has 1180 bytes; the piece has the 65536 of the large buffer
 abbrev Inv-loop : tie.InvT-loop
 Inv-loop store₀ piece₀ current₀ turns₀ store piece current turns = (length store ≡ 1180) × (length piece ≡ 65536)
 

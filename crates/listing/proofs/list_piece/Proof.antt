@@ -12,6 +12,8 @@ use Rattle.listing.proofs.Piece.{Listing, listing-begin, listing-none, 
 use Rattle.listing.proofs.list_piece.Statement.{statement}
 use Rattle.listing.proofs.list_piece.Tie as tie
 
+-- the store keeps its length; it is 1180 at most; the memory of a line keeps its length;
+-- rest, from current and store, ends where the whole piece does from the receiver and store at the start
 abbrev Inv-loop : tie.InvT-loop
 Inv-loop store₀ piece out₀ current₀ rest₀ written₀ store out current rest written =
     (length store ≡ length store₀) × (length store₀ ≤ 1180) × (length out ≡ length out₀)

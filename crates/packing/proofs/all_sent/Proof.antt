@@ -10,6 +10,7 @@ use Rattle.runs.proofs.Bytes.{drop-next}
 use Rattle.packing.proofs.all_sent.Statement.{statement}
 use Rattle.packing.proofs.all_sent.Tie as tie
 
+-- i lies within p; all bytes of p lie in 1 to 128 just where all from i on do
 abbrev Inv-loop : tie.InvT-loop
 Inv-loop p i₀ i = (i ≤ length p) × (allSent (drop i p) ≡ allSent p)
 

@@ -12,6 +12,7 @@ use Rattle.packing.proofs.Lengths.{length-packed, packed-nil, packed-ne
 use Rattle.packing.proofs.pack_all.Statement.{statement}
 use Rattle.packing.proofs.pack_all.Tie as tie
 
+-- i lies within the data; the first n packed bytes are stored from place at on, and those of the data from i on are still to come
 abbrev Inv-loop : tie.InvT-loop
 Inv-loop d out₀ at i₀ n₀ out i n = (i ≤ length d) × Run out₀ at (packed d) n (packed (drop i d)) out
 

@@ -18,6 +18,8 @@ use Rattle.packing.proofs.pack_group.Tie as tie
 abbrev still : List ℕ → List ℕ → List ℕ
 still g l = map lowSent l ++ (sent (topsOf g) ∷ [])
 
+-- j lies within the group; top, followed by the top bits from j on, gives all top bits;
+-- j bytes are stored from place at on, and the low bits of the bytes from j on and the byte of the top bits are still to come
 abbrev Inv-loop : tie.InvT-loop
 Inv-loop g out₀ at top₀ j₀ out top j =
     (j ≤ length g) × (topsAfter top (drop j g) ≡ topsAfter 0 g) × Run out₀ at (packedGroup g) j (still g (drop j g)) out

@@ -19,6 +19,8 @@ use Rattle.packing.proofs.unpack_all.Tie as tie
 abbrev part : List ℕ → ℕ → ℕ → List ℕ
 part d from count = take count (drop from d)
 
+-- e is at most count; no more bytes are stored than are read;
+-- the first n data bytes are stored from place 0 on, and those of the packed bytes from e on are still to come
 abbrev Inv-loop : tie.InvT-loop
 Inv-loop store₀ from count n₀ e₀ store n e =
     (e ≤ count) × (n ≤ e) × Run store₀ 0 (dataOf (part store₀ from count)) n (dataOf (drop e (part store₀ from count))) store

@@ -14,6 +14,7 @@ use Rattle.runs.proofs.Bytes.{drop-next}
 use Rattle.packing.proofs.unpack_group.Statement.{statement}
 use Rattle.packing.proofs.unpack_group.Tie as tie
 
+-- j is at most k; j data bytes are stored from place to on, and those from j on, each with its bit of tops, are still to come
 abbrev Inv-loop : tie.InvT-loop
 Inv-loop store₀ to from k tops j₀ store j =
     (j ≤ k) × Run store₀ to (unpackedGroup k (drop from store₀)) j (joined tops (drop j (take k (drop from store₀)))) store

@@ -12,6 +12,8 @@ use Rattle.pcs.proofs.Store.{next-count}
 use Rattle.pcs.proofs.scan.Statement.{statement}
 use Rattle.pcs.proofs.scan.Tie as tie
 
+-- i lies within the piece; the count is at most size; the store keeps its length; size bytes fit in it;
+-- the first i bytes make no event, and lead from the state and store at the start to current and store
 abbrev Inv-loop : tie.InvT-loop
 Inv-loop store₀ piece current₀ i₀ store current i =
     (i ≤ length piece) × (current .count ≤ size) × (length store ≡ length store₀) × (size ≤ length store₀)

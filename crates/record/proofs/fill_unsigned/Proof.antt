@@ -6,6 +6,7 @@ use Rattle.record.proofs.Loops.{within, Filled, fill-start, fill-step, 
 use Rattle.record.proofs.fill_unsigned.Statement.{statement}
 use Rattle.record.proofs.fill_unsigned.Tie as tie
 
+-- i is at most count; the first i fares are stored from the start of out on, and the others are still to come
 abbrev Inv-loop : tie.InvT-loop
 Inv-loop bytes size count out₀ i₀ out i = (i ≤ count) × Filled unsigned bytes size count out₀ i out
 

@@ -13,6 +13,7 @@ use Rattle.record.proofs.Complement.{Halves, halves, read-back}
 use Rattle.record.proofs.holds_signed.Statement.{statement}
 use Rattle.record.proofs.holds_signed.Tie as tie
 
+-- i lies within the fares; the size holds all of them just where it holds those from i on
 abbrev Inv-loop : tie.InvT-loop
 Inv-loop fares size top i₀ i = (i ≤ length fares) × (every (signed .holds size) (drop i fares) ≡ every (signed .holds size) fares)
 

@@ -9,6 +9,7 @@ use Rattle.record.proofs.Every.{every-step, every-fail, every-end}
 use Rattle.record.proofs.holds_unsigned.Statement.{statement}
 use Rattle.record.proofs.holds_unsigned.Tie as tie
 
+-- i lies within the fares; the size holds all of them just where it holds those from i on
 abbrev Inv-loop : tie.InvT-loop
 Inv-loop fares size top i₀ i = (i ≤ length fares) × (every (unsigned .holds size) (drop i fares) ≡ every (unsigned .holds size) fares)
 

@@ -10,6 +10,8 @@ use Rattle.runs.proofs.Run.{sets-more}
 use Rattle.runs.proofs.copy_before.Statement.{statement}
 use Rattle.runs.proofs.copy_before.Tie as tie
 
+-- k is not past stop; stop is the least of most, the room from place at on and the length of s; out keeps its length;
+-- it has the first k bytes of s stored; k and the bytes from there to the first mark are as many as from the start to it
 abbrev Inv-loop : tie.InvT-loop
 Inv-loop low high s out₀ at most stop k₀ out k =
     (k ≤ stop) × (stop ≡ min (min most (length out₀ - at)) (length s)) × (length out ≡ length out₀) × (out ≡ sets out₀ at (take k s))

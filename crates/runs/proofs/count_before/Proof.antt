@@ -8,6 +8,7 @@ use Rattle.runs.proofs.Before.{before-mark, before-next, before-end}
 use Rattle.runs.proofs.count_before.Statement.{statement}
 use Rattle.runs.proofs.count_before.Tie as tie
 
+-- k lies within s; k and the bytes from there to the first mark are as many as from the start to it
 abbrev Inv-loop : tie.InvT-loop
 Inv-loop low high s k₀ k = (k ≤ length s) × (k + before low high (drop k s) ≡ before low high s)
 

@@ -8,6 +8,7 @@ use Rattle.runs.proofs.Number.{part, part-length, part-start, part-step
 use Rattle.runs.proofs.number_at.Statement.{statement}
 use Rattle.runs.proofs.number_at.Tie as tie
 
+-- k lies within the bytes that are read, the last of them first; n is the number that those from k on stand for
 abbrev Inv-loop : tie.InvT-loop
 Inv-loop s at size n₀ k₀ n k = (k ≤ length (part s at (min size 4))) × (n ≡ number (drop k (part s at (min size 4))))
 

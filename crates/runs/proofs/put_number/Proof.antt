@@ -9,6 +9,7 @@ use Rattle.runs.proofs.Number.{put-start, put-step, put-end}
 use Rattle.runs.proofs.put_number.Statement.{statement}
 use Rattle.runs.proofs.put_number.Tie as tie
 
+-- k is not past stop; out keeps its length; with the size - k low bytes of rest stored from place at + k on, it has all bytes of n
 abbrev Inv-loop : tie.InvT-loop
 Inv-loop out₀ at size n stop rest₀ k₀ out rest k =
     (k ≤ stop) × ((length out ≡ length out₀) × (sets out (at + k) (bytesOf (size - k) rest) ≡ sets out₀ at (bytesOf size n)))

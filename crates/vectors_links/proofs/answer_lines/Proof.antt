@@ -5,6 +5,7 @@ use lib.ListN.{length}
 use Rattle.vectors_links.proofs.answer_lines.Statement.{statement}
 use Rattle.vectors_links.proofs.answer_lines.Tie as tie
 
+-- at lies within the text; the memory for a frame and the store keep their lengths
 abbrev Inv-loop : tie.InvT-loop
 Inv-loop text frame₀ store₀ kept₀ at₀ frame store kept at = (at ≤ length text) × (length frame ≡ length frame₀) × (length store ≡ length store₀)
 

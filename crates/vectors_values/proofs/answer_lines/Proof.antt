@@ -4,6 +4,7 @@ use lib.ListN.{length}
 use Rattle.vectors_values.proofs.answer_lines.Statement.{statement}
 use Rattle.vectors_values.proofs.answer_lines.Tie as tie
 
+-- at lies within the text
 abbrev Inv-loop : tie.InvT-loop
 Inv-loop text at₀ at = at ≤ length text
 

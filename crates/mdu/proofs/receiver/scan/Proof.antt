@@ -13,6 +13,8 @@ use Rattle.mdu.proofs.Known.{known-next}
 use Rattle.mdu.proofs.receiver.scan.Statement.{statement}
 use Rattle.mdu.proofs.receiver.scan.Tie as tie
 
+-- i lies within the piece; current is a known state; the store keeps its length; size bytes fit in it;
+-- the first i bytes make no event, and lead from the state and store at the start to current and store
 abbrev Inv-loop : tie.InvT-loop
 Inv-loop store₀ piece current₀ i₀ store current i =
     (i ≤ length piece) × (knownState current ≡ true) × (length store ≡ length store₀) × (size ≤ length store₀)

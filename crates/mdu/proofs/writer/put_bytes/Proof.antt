@@ -7,6 +7,7 @@ use Rattle.runs.proofs.Run.{Run, run-start, run-one, run-end}
 use Rattle.mdu.proofs.writer.put_bytes.Statement.{statement}
 use Rattle.mdu.proofs.writer.put_bytes.Tie as tie
 
+-- i lies within the bytes; the first i are stored from place at on, and those from i on are still to come
 abbrev Inv-loop : tie.InvT-loop
 Inv-loop out₀ at bytes i₀ out i = (i ≤ length bytes) × Run out₀ at bytes i (drop i bytes) out
 

@@ -10,6 +10,7 @@ use Rattle.vector_text.proofs.Stored.{Stored, stored-none, stored-next,
 use Rattle.vector_text.proofs.memory.fill.Statement.{statement}
 use Rattle.vector_text.proofs.memory.fill.Tie as tie
 
+-- the first k bytes of the content are stored, and the others are still to come
 abbrev Inv-loop : tie.InvT-loop
 Inv-loop content out₀ k₀ out k = Stored out₀ (laid (byteOf content) (length out₀)) k out
 

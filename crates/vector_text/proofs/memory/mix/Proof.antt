@@ -4,6 +4,7 @@ use borrow.Author.Needs.{needs}
 use Rattle.vector_text.proofs.memory.mix.Statement.{statement}
 use Rattle.vector_text.proofs.memory.mix.Tie as tie
 
+-- nothing: no promise is made on the number
 abbrev Inv-loop : tie.InvT-loop
 Inv-loop bytes mixed₀ k₀ mixed k = Unit {0}
 

@@ -4,6 +4,7 @@ use borrow.Author.Needs.{needs}
 use Rattle.vector_text.proofs.print.hex.Statement.{statement}
 use Rattle.vector_text.proofs.print.hex.Tie as tie
 
+-- nothing: the loop prints, and changes no memory
 abbrev Inv-loop : tie.InvT-loop
 Inv-loop bytes k₀ k = Unit {0}
 

@@ -4,6 +4,7 @@ use borrow.Author.Needs.{needs}
 use Rattle.vector_text.proofs.print.numbers.Statement.{statement}
 use Rattle.vector_text.proofs.print.numbers.Tie as tie
 
+-- nothing: the loop prints, and changes no memory
 abbrev Inv-loop : tie.InvT-loop
 Inv-loop name values k₀ k = Unit {0}
 

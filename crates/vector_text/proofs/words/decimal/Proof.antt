@@ -9,6 +9,7 @@ use Rattle.vector_text.proofs.Line.{decimal-next, decimal-end}
 use Rattle.vector_text.proofs.words.decimal.Statement.{statement}
 use Rattle.vector_text.proofs.words.decimal.Tie as tie
 
+-- value, carried on over the bytes from i on, is the number of the whole word
 abbrev Inv-loop : tie.InvT-loop
 Inv-loop word value₀ i₀ value i = decimalFrom value (drop i word) ≡ decimalOf word
 

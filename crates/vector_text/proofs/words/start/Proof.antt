@@ -10,6 +10,7 @@ use Rattle.vector_text.proofs.Line.{words-end, words-next}
 use Rattle.vector_text.proofs.words.start.Statement.{statement}
 use Rattle.vector_text.proofs.words.start.Tie as tie
 
+-- at lies within the line; word k of the line is word `left` of what stands from at on
 abbrev Inv-loop : tie.InvT-loop
 Inv-loop line k at₀ left₀ at left = (at ≤ length line) × (wordsFrom left (drop at line) ≡ wordsFrom k line)
 

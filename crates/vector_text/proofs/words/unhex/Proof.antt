@@ -11,6 +11,7 @@ use Rattle.vector_text.proofs.Stored.{Stored, stored-none, stored-next,
 use Rattle.vector_text.proofs.words.unhex.Statement.{statement}
 use Rattle.vector_text.proofs.words.unhex.Tie as tie
 
+-- most is the lesser of the word's pairs of digits and the room; the first n bytes are stored, and the others are still to come
 abbrev Inv-loop : tie.InvT-loop
 Inv-loop word out₀ most n₀ out n =
     (most ≡ min (length word / 2) (length out₀)) × Stored out₀ (take (length out₀) (unhexed word)) n out

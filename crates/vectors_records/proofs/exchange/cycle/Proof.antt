@@ -2,6 +2,7 @@ use borrow.Author.Needs.{needs}
 use Rattle.vectors_records.proofs.exchange.cycle.Statement.{statement}
 use Rattle.vectors_records.proofs.exchange.cycle.Tie as tie
 
+-- nothing: the calls take any state, and no promise is made on the last one
 abbrev Inv-loop : tie.InvT-loop
 Inv-loop count ending₀ last₀ left₀ t9 ending last left = Unit {0}
 
