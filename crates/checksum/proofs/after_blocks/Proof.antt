@@ -80,6 +80,7 @@ add-i c = omega arith
 loop-less : tie.Need-loop-less Inv-loop μ-loop
 loop-less c = omega arith
 
+-- the promises of `word` give the six words of a block, those of `shift192` each register a block on, for `braid-next`
 loop-again : tie.Need-loop-again Inv-loop μ-loop
 unfolding both
 loop-again c =

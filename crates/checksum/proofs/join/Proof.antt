@@ -39,6 +39,7 @@ word-requires-6 c κs = search needs
 shift32-requires-6 : tie.Need-shift32-requires-6
 shift32-requires-6 c κs = search needs
 
+-- the promises of `word` give the six words of the block, those of `shift32` the register after each, for `braid-joined`
 returns : tie.Need-returns
 returns c p x rule stands =
     let s5 = c .before .before .before in

@@ -38,6 +38,7 @@ shared-slice-read-t22 c = search needs
 shared-slice-read-t24 : tie.Need-shared-slice-read-t24
 shared-slice-read-t24 c = search needs
 
+-- the code reads the store and `judge` the gathered bytes alone: at places below the count, h0 to h3, these are the same
 returns-2 : tie.Need-returns-2
 returns-2 c =
     let a = c .before .before .before .before .before .before .before .before .args in
@@ -55,6 +56,7 @@ returns-3 c =
     let h2 : 2 < a .count = omega arith in
     λ wire. simp (l, getD-take, le-ltb _ _ (c .before .before .before .if1 .left), eq-eqb _ _ (c .before .if2 .taken), ne-eqb _ _ (c .if3 .left))
 
+-- that the stated length is the count of data, as numbers: `wide` promises to keep the byte's value
 returns-4 : tie.Need-returns-4
 returns-4 c =
     let a = c .before .before .before .before .before .before .before .before .args in

@@ -36,6 +36,7 @@ act-on-requires c κs = search needs
 same-length : tie.Need-same-length
 same-length c = search needs
 
+-- behind a DLE: `dle_after` tells the byte's meaning, and what `act_on` promises for all wire bytes is taken at the frame's own and this one
 returns-3 : tie.Need-returns-3
 returns-3 c =
     let a = c .before .before .before .before .before .before .before .before .before .args in
@@ -56,6 +57,7 @@ act-on-requires-2 c κs = search needs
 same-length-2 : tie.Need-same-length-2
 same-length-2 c = search needs
 
+-- the same where no DLE waits, with the meaning that `dle_plain` tells
 returns-4 : tie.Need-returns-4
 returns-4 c =
     let a = c .before .before .before .before .before .before .before .before .before .args in

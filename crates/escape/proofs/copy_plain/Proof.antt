@@ -41,6 +41,7 @@ is-hidden-requires c κs = tt
 same-length : tie.Need-same-length Inv-loop μ-loop
 same-length c = omega arith
 
+-- `is_hidden` promises that the byte at k does not mean itself, so the count of those before it is k
 returns : tie.Need-returns Inv-loop μ-loop
 returns c =
     let l = c .before .before .before .before in

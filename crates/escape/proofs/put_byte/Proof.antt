@@ -12,11 +12,13 @@ use Rattle.escape.proofs.put_byte.Tie as tie
 is-hidden-requires : tie.Need-is-hidden-requires
 is-hidden-requires c κs = search needs
 
+-- `is_hidden` promises that the byte takes two wire bytes, for which the caller promises room
 slice-write-out : tie.Need-slice-write-out
 slice-write-out c =
     let p = simp (sym (c .before .is-hidden .ensures) ∙ c .if1 .taken) at (c .before .before .before .pre .1) in
     omega arith
 
+-- a hidden byte is the escape at most, and that is at most top
 sub-out : tie.Need-sub-out
 sub-out c =
     let a = c .before .before .before .before .args in

@@ -68,6 +68,7 @@ is-pair-requires c κs = copied (c .before .before .before) .there
 same-length-2 : tie.Need-same-length-2 Inv-loop μ-loop
 same-length-2 c = copied (c .before .before .before .before .before) .stored .long
 
+-- room is left, so `copy_plain` took every byte up to the first that does not mean itself; `is_pair` promises that no pair is there
 returns-2 : tie.Need-returns-2 Inv-loop μ-loop
 returns-2 c =
     let f = c .before .before .before .before .before in

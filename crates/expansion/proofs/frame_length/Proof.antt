@@ -13,6 +13,7 @@ expansion-hidden-length-requires-2 c κs = search needs
 expansion-hidden-length-requires-3 : tie.Need-expansion-hidden-length-requires-3
 expansion-hidden-length-requires-3 c κs = search needs
 
+-- by `parts-short` the whole is 2066 bytes at most, so no sum on the way leaves its type
 add-result : tie.Need-add-result
 add-result c =
     let s = c .before .before .before .before .before .before in

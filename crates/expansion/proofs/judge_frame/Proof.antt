@@ -31,6 +31,7 @@ shared-slice-read-t15 c = search needs
 shared-slice-read-t17 : tie.Need-shared-slice-read-t17
 shared-slice-read-t17 c = search needs
 
+-- `check_right` and `fields_ok` promise that the tests of `judge` hold; `fields-here` takes the fields from the store to the gathered bytes
 returns-2 : tie.Need-returns-2
 returns-2 c =
     let r = c .before .before .before .before .before .before .before in

@@ -33,6 +33,7 @@ slice-aggregate-send c = search needs
 slice-aggregate-send-2 : tie.Need-slice-aggregate-send-2
 slice-aggregate-send-2 c = search needs
 
+-- e: the memory that `put_number` leaves is the trailer, since `crc32_joined` promises the CRC; so a sendable message's content fits
 send-requires : tie.Need-send-requires
 send-requires c κs =
     let p = c .before .before .before .before in

@@ -74,6 +74,7 @@ print-after-requires c κs = tt
 same-length-2 : tie.Need-same-length-2 Inv-loop μ-loop
 same-length-2 c = search needs
 
+-- the line has bytes, so the call made an event, and it used none: by `listing-stuck` the same would come again, and nothing changes
 returns-2 : tie.Need-returns-2 Inv-loop μ-loop
 returns-2 c =
     let a = c .before .before .before .before .before .before .before .before .before .before .before .before .before .before .before .before .args in

@@ -15,6 +15,7 @@ noise-requires c κs = tt
 count-of-requires : tie.Need-count-of-requires
 count-of-requires c κs = tt
 
+-- the count of a stored line is at most the length of the memory that `noise` leaves
 array-share-prefix-out : tie.Need-array-share-prefix-out
 array-share-prefix-out c = rw (c .count-of .ensures) (stored-counts _ _ (c .before .before .noise .ensures) .0)
 

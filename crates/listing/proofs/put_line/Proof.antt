@@ -56,6 +56,7 @@ returns c = rw (c .enum-told .given .1) (stored-nothing _)
 same-length : tie.Need-same-length
 same-length c = search needs
 
+-- the match tells the event, `data` promises the bytes that stand in the store, and `message` that their line is stored; so for each link
 returns-2 : tie.Need-returns-2
 unfolding textOf
 returns-2 c = rw (c .before .before .before .before .before .before .event .given .1, ← c .before .before .before .before .«data» .ensures) (c .before .before .message .ensures)
@@ -70,6 +71,7 @@ returns-3 c = rw (c .before .before .before .before .before .before .event2 .giv
 same-length-3 : tie.Need-same-length-3
 same-length-3 c = search needs
 
+-- the line of an error message, which has no data, is made like the others from the data in the store: `dle-line`
 returns-4 : tie.Need-returns-4
 unfolding textOf
 returns-4 c = rw (c .before .before .before .before .before .before .event3 .given .1, dle-line _ _, ← c .before .before .before .before .data3 .ensures) (c .before .before .message3 .ensures)

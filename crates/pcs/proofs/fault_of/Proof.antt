@@ -21,6 +21,7 @@ shared-slice-read-asks-crc c = search needs
 asks-crc-requires : tie.Need-asks-crc-requires
 asks-crc-requires c κs = search needs
 
+-- each test made so far, by the promise of the call it asks, says which way `faultOf` goes there; so for all that follow
 returns-2 : tie.Need-returns-2
 unfolding faultOf
 returns-2 c = rw (le-ltb _ 9 (c .before .before .before .if1 .left), sym (c .before .asks-crc .ensures) ∙ c .if2 .taken)

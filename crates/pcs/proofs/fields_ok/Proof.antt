@@ -41,6 +41,7 @@ stated-by-requires c κs = search needs
 kind-ok-requires : tie.Need-kind-ok-requires
 kind-ok-requires c κs = search needs
 
+-- v1 to v4 are the first one to four tests of the chain as the specification joins them; a test is asked only where those before it hold
 returns : tie.Need-returns
 returns c =
     let t = c .before .before .before .before .before in

@@ -41,6 +41,7 @@ slice-aggregate-head-of c =
     let a = c .before .before .before .before .before .args in
     sym (length-take-le (a .count) (a .store .now) (omega arith))
 
+-- `fault_of` found no fault, so nine bytes at least are gathered
 head-of-requires : tie.Need-head-of-requires
 head-of-requires c κs =
     let a = c .before .before .before .before .before .args in
@@ -60,6 +61,7 @@ told-of-requires c κs = search needs
 same-length-2 : tie.Need-same-length-2
 same-length-2 c = search needs
 
+-- without a fault, the event is made of the numbers that `head_of` promises, read before, and of what `unpack_in_place` answers and leaves
 returns-2 : tie.Need-returns-2
 returns-2 c =
     let s = c .before .before .before .before .before .before .before .before .before .before .before in

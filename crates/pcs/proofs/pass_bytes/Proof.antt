@@ -36,6 +36,8 @@ add-t13 c = search needs
 same-length : tie.Need-same-length
 same-length c = search needs
 
+-- `copy_before` promises that the n bytes stand before any mark, fit in the size and are stored, so each is gathered without an event;
+-- `pass_open` promises the state behind them
 returns : tie.Need-returns
 returns c =
     let f = c .before .before .before in

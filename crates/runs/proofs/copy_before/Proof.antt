@@ -41,6 +41,7 @@ is-between-requires c κs = search needs
 same-length : tie.Need-same-length Inv-loop μ-loop
 same-length c = search needs
 
+-- `is_between` promises that the byte at k is a mark, so the count of those before it is k
 returns : tie.Need-returns Inv-loop μ-loop
 returns c =
     let l = c .before .before .before .before in

@@ -52,6 +52,7 @@ header-sum-requires c κs = search needs
 end-requires-3 : tie.Need-end-requires-3
 end-requires-3 c κs = search needs
 
+-- version and address pass, and byte 5 is not the sum that `header_sum` promises: `enter` refuses for the check
 returns-3 : tie.Need-returns-3
 returns-3 c =
     let i = c .before .before .before .before .before .before .before .before .before in
@@ -78,6 +79,7 @@ go-on-requires c κs = search needs
 end-requires-4 : tie.Need-end-requires-4
 end-requires-4 c κs = search needs
 
+-- version, address, sum and, as `length_ok` promises, the length pass: `enter` goes on to the body, of the length that `joined` gives
 returns-4 : tie.Need-returns-4
 returns-4 c =
     let s = c .before .before .before .before .before .before in

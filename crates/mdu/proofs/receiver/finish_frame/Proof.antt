@@ -43,6 +43,7 @@ cast-if1 c = search needs
 shared-slice-read-t18 : tie.Need-shared-slice-read-t18
 shared-slice-read-t18 c = search needs
 
+-- e: the check value in the frame, which `joined` reads, is that of the body, which `crc16` promises
 returns : tie.Need-returns
 returns c =
     let a = c .before .before .before .before .before .before .before .before .args in

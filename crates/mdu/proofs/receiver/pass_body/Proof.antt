@@ -50,6 +50,8 @@ reopen-requires c κs = search needs
 same-length : tie.Need-same-length
 same-length c = search needs
 
+-- `least` promises that the piece has the n bytes and that the frame's last byte is not among them; `put_bytes` stores them,
+-- and `wrapping_add_u32` adds them to the bytes of the open frame
 returns : tie.Need-returns
 returns c =
     let p = c .before .before .before .before in

@@ -32,6 +32,7 @@ returns-2 c =
     let g = c .before .before .head-byte .ensures in
     (simp (n, l) (g .0), simp (n, l) (g .1))
 
+-- a known state with six bytes or more that does not hunt has bytes to come, and the caller promises that it is the last one alone
 last-byte-requires : tie.Need-last-byte-requires
 last-byte-requires c κs =
     let s = c .before .before .before .before .before .before .before in

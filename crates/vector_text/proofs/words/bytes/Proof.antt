@@ -38,6 +38,7 @@ unhex-requires c κs = search needs
 same-length : tie.Need-same-length
 same-length c = search needs
 
+-- `word`, `first_of` and the match tell the word's letter and so what `givenBy` is of it, and `copy` promises to store just that
 returns : tie.Need-returns
 returns c =
     let a = c .before .before .before .before .before .before .before .before .before .before .args in
@@ -79,6 +80,7 @@ returns-3 c =
 same-length-4 : tie.Need-same-length-4
 same-length-4 c = search needs
 
+-- the match leaves all three letters out, so `givenBy` is the word's bytes in hex, as far as there is room: what `unhex` stores
 returns-4 : tie.Need-returns-4
 returns-4 c =
     let a = c .before .before .before .before .before .before .before .before .before .before .args in
