@@ -56,7 +56,7 @@ returns-3 c =
     let h2 : 2 < a .count = omega arith in
     λ wire. simp (l, getD-take, le-ltb _ _ (c .before .before .before .if1 .left), eq-eqb _ _ (c .before .if2 .taken), ne-eqb _ _ (c .if3 .left))
 
--- that the stated length is the count of data, as numbers: `wide` promises to keep the byte's value
+-- e: the stated byte is the count of the data, since the test compares what `wide` promises to be its value
 returns-4 : tie.Need-returns-4
 returns-4 c =
     let a = c .before .before .before .before .before .before .before .before .args in

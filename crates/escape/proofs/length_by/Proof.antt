@@ -27,6 +27,7 @@ shared-slice-read-size-by c = omega arith
 size-by-requires : tie.Need-size-by-requires Inv-loop μ-loop
 size-by-requires c κs = search needs
 
+-- a byte takes two wire bytes at most, and a slice is short enough for twice its length to be a usize
 add-n : tie.Need-add-n Inv-loop μ-loop
 add-n c =
     let l = c .before .before .before in
