@@ -1,13 +1,18 @@
 -- A receiver inside a frame, over any code: it passes wire bytes without an event as far as whole bytes come, and gathers what they stand for.
 use Prim.Native.Nat.{ℕ, zero, suc, _+_, _-_, _%_, _^_, _≤_, _<_, min}
 use mathlib.Core.Path.{_≡_, refl, sym, ap, _∙_, subst}
-use mathlib.Core.List.{List, [], _∷_}
-use mathlib.Core.Option.{none}
+use mathlib.Core.Bool.{true}
+use mathlib.Core.List.{List, [], _∷_, _++_}
+use mathlib.Core.Option.{Option, none}
 use native.Mathlib.Nat.{add-zero}
 use native.Mathlib.Numerals.{add-one}
 use native.Mathlib.Omega.{arith}
 use lib.ListN.{length, getD, take, drop, set, length-set, length-drop}
-use lib.Seq.{sets, getD-drop, drop-drop}
+use lib.Seq.{sets, getD-drop, drop-drop, length-take-le}
+use lib.Dec.{ltb}
+use borrow.Author.Tests.{lt-ltb}
+use Rattle.runs.specs.Runs.{over}
+use Rattle.runs.proofs.Run.{more-count, more-over}
 use Rattle.runs.proofs.Bytes.{part-rest}
 use Rattle.framing.specs.Link.{Link, Lent, stepOn}
 use Rattle.framing.specs.Passing.{Leads, Gathers}
@@ -22,6 +27,18 @@ pub record Gathering (L : Link) (code : Code) (opened waiting : ℕ → ℕ → 
       → stepOn L (opened k o z, store) b ≡ ((opened (k + 1) ((o + 1) % 2 ^ 32) z, set store k v), none)
   pub second : (k o z b v : ℕ) (store : List ℕ) → k < L .size → L .size ≤ length store → code .after b ≡ byte v
       → stepOn L (waiting k o z, store) b ≡ ((opened (k + 1) ((o + 1) % 2 ^ 32) z, set store k v), none)
+
+-- a byte that is gathered behind the first k bytes of a store: it has room, and is stored at its place
+module _ (size k : ℕ) (store : List ℕ) (room : size ≤ length store) where
+  pub gathered-long : k ≤ size → length (take k store) ≡ k
+  gathered-long h = length-take-le k store (omega arith)
+
+  pub gathered-room : k < size → ltb (length (take k store)) size ≡ true
+  gathered-room less = lt-ltb (length (take k store)) size (omega (arith, gathered-long (omega arith)))
+
+  pub gathered-one : {S E : Type 0} (at : ℕ → S) (v : ℕ) → k < size
+      → _≡_ {A = (S × List ℕ) × Option E} ((at (length (take k store ++ (v ∷ []))), over (take k store ++ (v ∷ [])) store), none) ((at (k + 1), set store k v), none)
+  gathered-one at v less = λ i. ((at (more-count store k v (omega arith) i), sym (more-over store k v (omega arith)) i), none)
 
 -- no more bytes are read than asked for
 most-first : (r : ℕ) (m : Meaning) (behind both : List ℕ × ℕ) → length (behind .0) ≤ r → length (both .0) ≤ suc r → length (readFirst m behind both .0) ≤ suc r

@@ -1,21 +1,19 @@
 -- Bytes of a piece that are passed at once: noise, and bytes of an open frame.
-use Prim.Native.Nat.{ℕ, _+_, _-_, _%_, _^_, _≤_, _<_}
+use Prim.Native.Nat.{ℕ, _+_, _-_, _%_, _^_, _≤_}
 use mathlib.Core.Path.{_≡_, ap, sym, _∙_}
 use mathlib.Core.Bool.{true, false}
 use mathlib.Core.List.{List, [], _∷_, _++_}
 use mathlib.Core.Option.{Option, none}
 use native.Mathlib.Omega.{arith}
-use lib.ListN.{length, take, drop, set}
-use lib.Seq.{length-take-le}
-use lib.Dec.{ltb}
-use borrow.Author.Tests.{lt-ltb, eq-eqb, ne-eqb}
+use lib.ListN.{length, take, drop}
+use borrow.Author.Tests.{eq-eqb, ne-eqb}
 use Rattle.runs.specs.Runs.{over, between, before}
 use Rattle.runs.proofs.Before.{between-not}
-use Rattle.runs.proofs.Run.{more-count, more-over, same-over}
+use Rattle.runs.proofs.Run.{same-over}
 use Rattle.escape.specs.Expansion.{expansion}
 use Rattle.framing.specs.Segment.{Segment, Event, eventOf}
 use Rattle.framing.specs.State.{afterNoise, stateAfter}
-use Rattle.escape.proofs.Passing.{Gathering}
+use Rattle.escape.proofs.Passing.{Gathering, gathered-long, gathered-room, gathered-one}
 use Rattle.framing.specs.Link.{Lent, stepOn}
 use Rattle.framing.specs.Passing.{Leads}
 use Rattle.framing.specs.declared.State.{State}
@@ -40,19 +38,6 @@ leads-hunting piece s store i n e h l =
 abbrev waiting : ℕ → ℕ → ℕ → State
 waiting count held noise = record { mode = 2; count = count; «open» = held; noise = noise }
 
-long : (k : ℕ) (store : List ℕ) → k ≤ size → size ≤ length store → length (take k store) ≡ k
-long k store h room = length-take-le k store (omega arith)
-
-fits : (k : ℕ) (store : List ℕ) → k < size → size ≤ length store → ltb (length (take k store)) size ≡ true
-fits k store less room = lt-ltb (length (take k store)) size (omega (arith, long k store (omega arith) room))
-
--- a byte that is gathered is stored at its place
-gathered-one : (k o z v : ℕ) (store : List ℕ) → k < size → size ≤ length store
-    → _≡_ {A = Lent link × Option (Event Message)} ((opened (length (take k store ++ (v ∷ []))) ((o + 1) % 2 ^ 32) z, over (take k store ++ (v ∷ [])) store), none)
-    ((opened (k + 1) ((o + 1) % 2 ^ 32) z, set store k v), none)
-gathered-one k o z v store less room =
-    λ i. ((opened (more-count store k v (omega arith) i) ((o + 1) % 2 ^ 32) z, sym (more-over store k v (omega arith)) i), none)
-
 -- what a byte leaves and tells, by what the rules give
 abbrev after : State → List ℕ → Phase × Option (Segment Message) → Lent link × Option (Event Message)
 after s store r = ((stateAfter modeOf gathered held s (r .0) (r .1), over (gathered (r .0)) store), eventOf (r .1))
@@ -63,11 +48,11 @@ rules = record {
   half = λ k o z b store most room e.
       let t : cut (inside false (take k store)) b ≡ (inside true (take k store), none) = rw e in
       ap (after (opened k o z) store) t
-      ∙ (λ i. ((waiting (long k store most room i) ((o + 1) % 2 ^ 32) z, sym (same-over store k (omega arith)) i), none));
+      ∙ (λ i. ((waiting (gathered-long size k store room most i) ((o + 1) % 2 ^ 32) z, sym (same-over store k (omega arith)) i), none));
   whole = λ k o z b v store less room e.
-      let t : cut (inside false (take k store)) b ≡ (inside false (take k store ++ (v ∷ [])), none) = rw e (rw (fits k store less room)) in
-      ap (after (opened k o z) store) t ∙ gathered-one k o z v store less room;
+      let t : cut (inside false (take k store)) b ≡ (inside false (take k store ++ (v ∷ [])), none) = rw e (rw (gathered-room size k store room less)) in
+      ap (after (opened k o z) store) t ∙ gathered-one size k store room (λ n. opened n ((o + 1) % 2 ^ 32) z) v less;
   second = λ k o z b v store less room e.
-      let t : cut (inside true (take k store)) b ≡ (inside false (take k store ++ (v ∷ [])), none) = rw e (rw (fits k store less room)) in
-      ap (after (waiting k o z) store) t ∙ gathered-one k o z v store less room;
+      let t : cut (inside true (take k store)) b ≡ (inside false (take k store ++ (v ∷ [])), none) = rw e (rw (gathered-room size k store room less)) in
+      ap (after (waiting k o z) store) t ∙ gathered-one size k store room (λ n. opened n ((o + 1) % 2 ^ 32) z) v less;
 }
