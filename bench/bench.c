@@ -22,6 +22,7 @@ static const char *const ways[WAYS - 1] = {"bits", "table", "slices", "bytewise"
 const struct side *opponents[WAYS][COMPILERS] = {[WAYS - 1] = {0, &zlib}};
 
 uint8_t out[4096], store[2048];
+static size_t room = sizeof out, size = sizeof store; /* how much of them is lent */
 
 /* Unpacking needs its bytes in the store: they are laid there anew each time, on every side. */
 static size_t unpacked(const struct side *s, const uint8_t *p, size_t n) { memcpy(store, p, n); return s->unpack(store, sizeof store, 8, n - 8); }
@@ -33,16 +34,16 @@ static size_t unpacked(const struct side *s, const uint8_t *p, size_t n) { memcp
 WORK("CRC-16", 0, crc16, s->crc16(p, n))
 WORK("CRC-32", 0, crc32, s->crc32(p, n))
 WORK("PCS sum", 0, sum, s->sum(p, n))
-WORK("PCS packing", 1, pack, s->pack(p, n, out, sizeof out))
+WORK("PCS packing", 1, pack, s->pack(p, n, out, room))
 WORK("PCS unpacking", 0, unpack, unpacked(s, p, n))
-WORK("PCS write", 1, pcs_write, s->pcs_write(2, 250, 0, 4, 1, 1, p, n, out, sizeof out))
-WORK("MDU write", 1, mdu_write, s->mdu_write(13, p, n, out, sizeof out))
-WORK("DLE write", 1, dle_write, s->dle_write(7, 3, p, n, out, sizeof out))
-WORK("expansion write", 1, expansion_write, s->expansion_write(1, 0, 0, 5, p, n, out, sizeof out))
-WORK("PCS read", 0, pcs_read, s->pcs_read(p, n, store, sizeof store))
-WORK("MDU read", 0, mdu_read, s->mdu_read(p, n, store, sizeof store))
-WORK("DLE read", 0, dle_read, s->dle_read(p, n, store, sizeof store))
-WORK("expansion read", 0, expansion_read, s->expansion_read(p, n, store, sizeof store))
+WORK("PCS write", 1, pcs_write, s->pcs_write(2, 250, 0, 4, 1, 1, p, n, out, room))
+WORK("MDU write", 1, mdu_write, s->mdu_write(13, p, n, out, room))
+WORK("DLE write", 1, dle_write, s->dle_write(7, 3, p, n, out, room))
+WORK("expansion write", 1, expansion_write, s->expansion_write(1, 0, 0, 5, p, n, out, room))
+WORK("PCS read", 0, pcs_read, s->pcs_read(p, n, store, size))
+WORK("MDU read", 0, mdu_read, s->mdu_read(p, n, store, size))
+WORK("DLE read", 0, dle_read, s->dle_read(p, n, store, size))
+WORK("expansion read", 0, expansion_read, s->expansion_read(p, n, store, size))
 
 static uint64_t state = 88172645463325252u;
 static uint64_t next(void) { state ^= state << 13; state ^= state >> 7; state ^= state << 17; return state >> 16; }
@@ -69,7 +70,7 @@ static void made(const struct work *writer, size_t before) {
     }
 }
 
-/* The sides agree on the inputs damaged in some bytes and cut or lengthened too, so on what is refused. */
+/* The sides agree on the inputs damaged in some bytes, cut or lengthened, and in less memory too: so on what is refused. */
 static void damaged(const struct work *w, size_t least) {
     static uint8_t wrong[LONGEST + 1];
     for (int k = 0; k < 100 * INPUTS; k++) {
@@ -78,8 +79,12 @@ static void damaged(const struct work *w, size_t least) {
         for (size_t i = next() % 4; i > 0; i--) wrong[next() % n] = (uint8_t)(next() % 2 ? next() : next() % 2 ? 16 : 253 + next() % 3);
         if (next() % 4 == 0) n = least + next() % (n + 1 - least);
         else if (next() % 4 == 0) wrong[n++] = (uint8_t)next();
+        room = next() % 4 ? sizeof out : next() % LONGEST;
+        size = next() % 8 ? sizeof store : next() % sizeof store;
         agree(w, &(struct input){wrong, n}, 1);
     }
+    room = sizeof out;
+    size = sizeof store;
 }
 
 static void row(const char *name, const struct work *w, size_t n, int byte) {

@@ -110,4 +110,5 @@ uint64_t plain_expansion_read(const uint8_t *frame, size_t n, uint8_t *store, si
     return 6;
 }
 
-SIDE plain_read = {.way = "plain", .pcs_read = plain_pcs_read, .mdu_read = plain_mdu_read, .dle_read = plain_dle_read, .expansion_read = plain_expansion_read};
+SIDE plain_read = {.way = "plain", .pcs_read = plain_pcs_read, .mdu_read = plain_mdu_read,
+    .dle_read = plain_dle_read, .expansion_read = plain_expansion_read};

@@ -2,7 +2,7 @@
 #include "parts.h"
 
 int32_t plain_pcs_write(uint8_t receiver, uint8_t sender, uint8_t kind, uint8_t number, uint8_t sender_port, uint8_t receiver_port,
-                         const uint8_t *data, size_t n, uint8_t *out, size_t room) {
+                        const uint8_t *data, size_t n, uint8_t *out, size_t room) {
     size_t k = n + (n + 6) / 7;
     uint8_t head[8] = {receiver, sender, (uint8_t)(4 + kind), number, pcs_sent(k >> 7 & 127), pcs_sent(k & 127), sender_port, receiver_port};
     if (kind > 3 || n > 1024 || (kind > 1 && n) || !pcs_fields_ok(head)) return -3;
@@ -71,4 +71,5 @@ int32_t plain_expansion_write(uint8_t id, uint8_t type, uint8_t repeat, uint8_t 
     return (int32_t)(p - out);
 }
 
-SIDE plain_write = {.way = "plain", .pcs_write = plain_pcs_write, .mdu_write = plain_mdu_write, .dle_write = plain_dle_write, .expansion_write = plain_expansion_write};
+SIDE plain_write = {.way = "plain", .pcs_write = plain_pcs_write, .mdu_write = plain_mdu_write,
+    .dle_write = plain_dle_write, .expansion_write = plain_expansion_write};

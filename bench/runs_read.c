@@ -119,4 +119,5 @@ uint64_t runs_expansion_read(const uint8_t *frame, size_t n, uint8_t *store, siz
     return 6;
 }
 
-SIDE runs_read = {.way = "by runs", .pcs_read = runs_pcs_read, .mdu_read = runs_mdu_read, .dle_read = runs_dle_read, .expansion_read = runs_expansion_read};
+SIDE runs_read = {.way = "by runs", .pcs_read = runs_pcs_read, .mdu_read = runs_mdu_read,
+    .dle_read = runs_dle_read, .expansion_read = runs_expansion_read};

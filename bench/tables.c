@@ -33,7 +33,8 @@ static int by_loss(const void *a, const void *b) {
 static void print_time(double ns) { printf(ns > 0 ? ns < 99.95 ? " %.1f |" : " %.0f |" : " |", ns); }
 
 static void print_ratio(struct measured m) {
-    if (m.time > 0) printf(" %.2f (%.2f to %.2f) |", m.ratio.middle, m.ratio.low, m.ratio.high);
+    int digits = m.ratio.middle < 0.1 ? 3 : 2;
+    if (m.time > 0) printf(" %.*f (%.*f to %.*f) |", digits, m.ratio.middle, digits, m.ratio.low, digits, m.ratio.high);
     else printf(" |");
 }
 
@@ -50,8 +51,8 @@ static void print_row(const struct row *r) {
 }
 
 static void print_heading(const char *title) {
-    printf("## %s\n\n| Call | Bytes | Against | clang's ratio | gcc's ratio | linebox, ns | clang, ns | gcc, ns | linebox, instr. | clang, instr. | gcc, instr. | wire |\n"
-           "|---|--:|---|--:|--:|--:|--:|--:|--:|--:|--:|--:|\n", title);
+    printf("## %s\n\n| Call | Bytes | Against | clang's ratio | gcc's ratio | linebox, ns | clang, ns | gcc, ns "
+           "| linebox, instr. | clang, instr. | gcc, instr. | wire |\n|---|--:|---|--:|--:|--:|--:|--:|--:|--:|--:|--:|\n", title);
 }
 
 static void print_rows(void) {
