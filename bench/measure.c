@@ -32,7 +32,11 @@ void agree(const struct work *w, const struct input *in, size_t count) {
     }
 }
 
-static double batch(const struct work *w, const struct side *s, const struct input *in, size_t count, size_t times) {
+/* The calls stand so many bytes lower on the stack than another round's: where a stack lies beside the data tells in some calls' time. */
+__attribute__((noinline))
+static double batch(const struct work *w, const struct side *s, const struct input *in, size_t count, size_t times, size_t lower) {
+    volatile uint8_t *gap = __builtin_alloca(lower + 1);
+    gap[0] = 0;
     double t = now();
     for (size_t i = 0; i < times; i++)
         for (size_t k = 0; k < count; k++) sink += w->run(s, in[k].bytes, in[k].n);
@@ -64,9 +68,9 @@ void measure(const char *name, const struct work *w, const struct input *in, siz
         const struct side *s = opponents[i / COMPILERS][i % COMPILERS];
         if (s && w->entry(s)) { sides[n] = s; place[n++] = i; }
     }
-    size_t times = 1 + (size_t)(40000 / (batch(w, &linebox, in, count, 1) * (double)count));
+    size_t times = 1 + (size_t)(40000 / (batch(w, &linebox, in, count, 1, 0) * (double)count));
     for (int k = 0; k < ROUNDS; k++)
-        for (int i = 0; i < n; i++) { int s = (i + k) % n; time[s][k] = batch(w, sides[s], in, count, times); }
+        for (int i = 0; i < n; i++) { int s = (i + k) % n; time[s][k] = batch(w, sides[s], in, count, times, (size_t)k * 272 % 4096); }
     struct measured got[1 + WAYS * COMPILERS];
     for (int s = 0; s < n; s++) {
         for (int k = 0; k < ROUNDS; k++) ratio[k] = time[s][k] / time[0][k];
