@@ -9,12 +9,15 @@ uint8_t sum_bytes(const uint8_t *p, size_t n) {
     return as_sum(s);
 }
 
-/* Four sums of 16 bits side by side; they may wrap, since the sum is taken modulo 256. */
+/* Four sums of 16 bits side by side; after 128 words they are added up, before one of them overflows. */
 uint8_t sum_words(const uint8_t *p, size_t n) {
     const uint64_t even = 0x00FF00FF00FF00FFu;
-    uint64_t w = 0;
-    for (; n >= 8; p += 8, n -= 8) w = (w + (load8(p) & even) + (load8(p) >> 8 & even)) & even;
-    uint8_t s = (uint8_t)(w + (w >> 16) + (w >> 32) + (w >> 48));
+    uint8_t s = 0;
+    while (n >= 8) {
+        uint64_t w = 0;
+        for (int k = 0; k < 128 && n >= 8; k++, p += 8, n -= 8) w += (load8(p) & even) + (load8(p) >> 8 & even);
+        s += (uint8_t)(w + (w >> 16) + (w >> 32) + (w >> 48));
+    }
     for (size_t i = 0; i < n; i++) s += p[i];
     return as_sum(s);
 }
