@@ -14,8 +14,10 @@ uint8_t sum_words(const uint8_t *p, size_t n) {
     const uint64_t even = 0x00FF00FF00FF00FFu;
     uint8_t s = 0;
     while (n >= 8) {
+        size_t k = n < 1024 ? n / 8 : 128;
+        n -= 8 * k;
         uint64_t w = 0;
-        for (int k = 0; k < 128 && n >= 8; k++, p += 8, n -= 8) w += (load8(p) & even) + (load8(p) >> 8 & even);
+        for (; k; k--, p += 8) w += (load8(p) & even) + (load8(p) >> 8 & even);
         s += (uint8_t)(w + (w >> 16) + (w >> 32) + (w >> 48));
     }
     for (size_t i = 0; i < n; i++) s += p[i];
