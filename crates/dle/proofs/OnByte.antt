@@ -45,10 +45,10 @@ abbrev Next : List ℕ → List ℕ → Phase × Option (Segment Message) → Ty
 Next g wire r = Takes reached g wire (gathered (r .0)) r
 
 -- the end of a frame: an accepted message has the gathered bytes as its body
-abbrev Judged : List ℕ → Message → Type 0
+abbrev pub Judged : List ℕ → Message → Type 0
 Judged g m = (body m ≡ g) × (length g ≤ size → ok m ≡ true)
 
-judge-ends : (g wire : List ℕ) → Ends (Judged g) wire (judge g wire)
+pub judge-ends : (g wire : List ℕ) → Ends (Judged g) wire (judge g wire)
 judge-ends g wire =
     by-ltb P (length g) 4 (λ _. refl) (λ l.
     by-eqb P (getD g 2 0) 0

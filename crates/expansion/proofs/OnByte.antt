@@ -56,10 +56,10 @@ held-open : held (inside false []) ≡ 0xFD ∷ []
 held-open = ap (λ (x : List ℕ). 0xFD ∷ (x ++ [])) (each-nil hideByte)
 
 -- the end of a frame: an accepted message has the gathered bytes as its content
-abbrev Judged : List ℕ → Message → Type 0
+abbrev pub Judged : List ℕ → Message → Type 0
 Judged g m = Good (inside false g) → (content m ≡ g) × (ok m ≡ true)
 
-judge-ends : (g wire : List ℕ) → Ends (Judged g) wire (judge g wire)
+pub judge-ends : (g wire : List ℕ) → Ends (Judged g) wire (judge g wire)
 judge-ends g wire =
     by-ltb P (length g) 8 (λ _. refl) (λ l.
     by-test P (checkRight g) (λ c. by-test P (fieldsOk g) (λ f h. (content-in g l (h .0) c, ok-in g l (h .1) f)) (λ _. refl)) (λ _. refl))

@@ -104,10 +104,10 @@ module _ (g : List ℕ) (long : 9 ≤ length g) (short : length g ≤ size) (f :
       )
 
 -- the end of a frame: an accepted message has the gathered bytes between its marks
-abbrev Judged : List ℕ → Message → Type 0
+abbrev pub Judged : List ℕ → Message → Type 0
 Judged g m = length g ≤ size → (frame m ≡ 253 ∷ g ++ (254 ∷ [])) × (ok m ≡ true) × Bytes (m .payload)
 
-judge-ends : (g w : List ℕ) → Ends (Judged g) w (judge g w)
+pub judge-ends : (g w : List ℕ) → Ends (Judged g) w (judge g w)
 judge-ends g w =
     by-ltb P (length g) 9 (λ _. refl) (λ l.
     by-test P (asksCrc g) (λ _. refl) (λ _.
