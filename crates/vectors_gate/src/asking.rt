@@ -45,7 +45,7 @@ fn cycle(state: gate::Exchange, count: usize) -> gate::Exchange {
         let waiting = gate::start(ending, 0);
         let asked = waiting.asked;
         last = sent_id(asked, last);
-        let over = gate::arrived(waiting.state, 1, last, 0);
+        let over = gate::arrived(waiting.state, last, 1, 0);
         ending = over.state;
         left -= 1;
     }

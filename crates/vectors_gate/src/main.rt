@@ -1,21 +1,21 @@
 // Makes the calls on the gate exchange that standard input names, one a line, and prints each line again with what the call answered.
 // Both standard input and what is to be printed come from the second implementation, whose src/vectors.rs says how lines are written.
-mod answering;
 mod asking;
 mod chain;
+mod responding;
 
 use vector_text::print;
 
 // The two ends, kept from line to line.
 struct Ends {
     asking: gate::Exchange,
-    answering: gate::Answering,
+    responder: gate::Responder,
 }
 
 fn fresh() -> Ends {
     Ends {
         asking: gate::fresh(),
-        answering: gate::fresh_answering(),
+        responder: gate::fresh_responder(),
     }
 }
 
@@ -23,12 +23,12 @@ fn fresh() -> Ends {
 fn answer_line(line: &[u8], ends: Ends) -> Ends {
     print::text(line);
     let asking = asking::answer(line, ends.asking);
-    let answering = answering::answer(line, ends.answering);
+    let responder = responding::answer(line, ends.responder);
     chain::answer(line);
     print::text(b"\n");
     Ends {
         asking: asking,
-        answering: answering,
+        responder: responder,
     }
 }
 

@@ -1,4 +1,4 @@
-//! The gate exchange (asking end and answering end) and the chain address.
+//! The gate exchange (asking end and responding end) and the chain address.
 
 /// The asking end's state, of any numbers. `id` is the latest one, also while idle.
 #[derive(Clone, Copy, Debug, PartialEq, Eq)]
@@ -88,9 +88,9 @@ pub fn arrival(asking: Asking, kind: u8, id: u8, now: u32) -> (Asking, Answer) {
     (asking, Answer::Nothing)
 }
 
-/// The answering end's state: whether a request was handed out, and its id.
+/// The responding end's state: whether a request was handed out, and its id.
 #[derive(Clone, Copy, Debug, Default, PartialEq, Eq)]
-pub struct Answering {
+pub struct Responder {
     pub handed: bool,
     pub id: u8,
 }
@@ -110,33 +110,33 @@ fn reply(id: u8, kind: u8, head: bool, address: u8) -> Reply {
 }
 
 /// The new state, the reply, and whether the request is handed out.
-pub type Answered = (Answering, Option<Reply>, bool);
+pub type Response = (Responder, Option<Reply>, bool);
 
 /// An accepted frame: every request is acknowledged; a repeat of the request
 /// handed out last is not handed out again.
-pub fn accepted(answering: Answering, head: bool, id: u8, kind: u8, repeat: u8, address: u8) -> Answered {
+pub fn accepted(responder: Responder, head: bool, id: u8, kind: u8, repeat: u8, address: u8) -> Response {
     if kind != 0 {
-        return (answering, None, false);
+        return (responder, None, false);
     }
     let acknowledgement = Some(reply(id, 1, head, address));
-    if answering.handed && answering.id == id && repeat > 0 {
-        return (answering, acknowledgement, false);
+    if responder.handed && responder.id == id && repeat > 0 {
+        return (responder, acknowledgement, false);
     }
-    (Answering { handed: true, id }, acknowledgement, true)
+    (Responder { handed: true, id }, acknowledgement, true)
 }
 
 /// A refused frame: an 8 gets a check error that bears the gathered id.
 /// No reply where the store can't hold an address (left free by the paper).
-pub fn refused(answering: Answering, head: bool, number: u8, store: &[u8]) -> Answered {
+pub fn refused(responder: Responder, head: bool, number: u8, store: &[u8]) -> Response {
     if number != 8 || store.len() < 4 {
-        return (answering, None, false);
+        return (responder, None, false);
     }
-    (answering, Some(reply(store[0], 2, head, store[3])), false)
+    (responder, Some(reply(store[0], 2, head, store[3])), false)
 }
 
 /// A call of the receiver that told nothing.
-pub fn quiet(answering: Answering) -> Answered {
-    (answering, None, false)
+pub fn quiet(responder: Responder) -> Response {
+    (responder, None, false)
 }
 
 /// One step down the chain; none from 0.

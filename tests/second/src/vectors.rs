@@ -57,16 +57,16 @@
 //!     ask state STATE
 //!     ask start NOW | ANSWER state STATE
 //!     ask tick NOW | ANSWER state STATE
-//!     ask arrival TYPE ID NOW | ANSWER state STATE
+//!     ask arrival ID TYPE NOW | ANSWER state STATE
 //!     ask cycle N | last ID state STATE   N times a start and its acknowledgement, all
 //!                                         at time 0; ID is the last one sent
-//!     answer fresh
-//!     answer state H ID                   H is 1 if one was handed out, ID the last one
-//!     answer WHO ID TYPE REPEAT ADDRESS | REPLY handed H last L
+//!     respond fresh
+//!     respond state H ID                  H is 1 if one was handed out, ID the last one
+//!     respond WHO ID TYPE REPEAT ADDRESS | REPLY handed H last L
 //!         an accepted frame at WHO (`board` or `head`); H is 1 if it is handed out
 //!         REPLY is `reply ID TYPE REPEAT ADDRESS` or `reply none`; L is the id handed
 //!         out last, `none` if there is none
-//!     answer-refused WHO N BYTES | REPLY handed H last L
+//!     respond-refused WHO N BYTES | REPLY handed H last L
 //!         a frame refused with N, BYTES its store; N is 0 where nothing was told
 //!     chain down A | gives B here H       H is 1 if that means here
 //!     chain up A | gives B                both: or `refused 15`

@@ -1,6 +1,6 @@
 //! The gate exchange: both ends, and the chain address.
 
-use crate::gate::{self, Answer, Answering, Asking, Reply};
+use crate::gate::{self, Answer, Asking, Reply, Responder};
 
 #[test]
 fn asking_end() {
@@ -43,8 +43,8 @@ fn asking_end() {
 }
 
 #[test]
-fn answering_end_and_chain() {
-    let fresh = Answering::default();
+fn responding_end_and_chain() {
+    let fresh = Responder::default();
     let acknowledged = |id, address| Some(Reply { id, kind: 1, repeat: 0, address });
     // A first request with repeat 1 and id 0 is handed out: nothing was before.
     let (state, reply, handed) = gate::accepted(fresh, false, 0, 0, 1, 9);

@@ -1,7 +1,7 @@
-//! The gate exchange: the asking end, the answering end, the chain address.
+//! The gate exchange: the asking end, the responding end, the chain address.
 
 use super::text::{bytes_word, section, Lines};
-use crate::gate::{self, Answer, Answered, Answering, Asking, Reply};
+use crate::gate::{self, Answer, Asking, Reply, Responder, Response};
 
 /// Lines of the asking end.
 pub struct Ask {
@@ -44,7 +44,7 @@ impl Ask {
     }
 
     pub fn arrival(&mut self, kind: u8, id: u8, now: u32) {
-        self.line(format!("arrival {kind} {id} {now}"), gate::arrival(self.asking, kind, id, now));
+        self.line(format!("arrival {id} {kind} {now}"), gate::arrival(self.asking, kind, id, now));
     }
 
     pub fn state(&mut self, asking: Asking) {
@@ -80,44 +80,44 @@ fn who(head: bool) -> &'static str {
     }
 }
 
-/// Lines of the answering end.
+/// Lines of the responding end.
 pub struct Respond {
     pub lines: Lines,
-    pub answering: Answering,
+    pub responder: Responder,
 }
 
 impl Respond {
     pub fn new(lines: Lines) -> Self {
-        Respond { lines, answering: Answering::default() }
+        Respond { lines, responder: Responder::default() }
     }
 
-    fn line(&mut self, call: String, (answering, reply, handed): Answered) {
-        self.answering = answering;
-        let last = if answering.handed { answering.id.to_string() } else { String::from("none") };
+    fn line(&mut self, call: String, (responder, reply, handed): Response) {
+        self.responder = responder;
+        let last = if responder.handed { responder.id.to_string() } else { String::from("none") };
         self.lines.add(&call, &format!("{} handed {} last {last}", reply_words(reply), handed as u8));
     }
 
     pub fn fresh(&mut self) {
-        self.answering = Answering::default();
-        self.lines.add("answer fresh", "");
+        self.responder = Responder::default();
+        self.lines.add("respond fresh", "");
     }
 
-    pub fn state(&mut self, answering: Answering) {
-        self.answering = answering;
-        self.lines.add(&format!("answer state {} {}", answering.handed as u8, answering.id), "");
+    pub fn state(&mut self, responder: Responder) {
+        self.responder = responder;
+        self.lines.add(&format!("respond state {} {}", responder.handed as u8, responder.id), "");
     }
 
     pub fn accepted(&mut self, head: bool, id: u8, kind: u8, repeat: u8, address: u8) {
-        let call = format!("answer {} {id} {kind} {repeat} {address}", who(head));
-        self.line(call, gate::accepted(self.answering, head, id, kind, repeat, address));
+        let call = format!("respond {} {id} {kind} {repeat} {address}", who(head));
+        self.line(call, gate::accepted(self.responder, head, id, kind, repeat, address));
     }
 
     /// Number 0 stands for a call that told nothing.
     pub fn refused(&mut self, head: bool, number: u8, store: &[u8]) {
-        let call = format!("answer-refused {} {number} {}", who(head), bytes_word(store));
+        let call = format!("respond-refused {} {number} {}", who(head), bytes_word(store));
         let answered = match number {
-            0 => gate::quiet(self.answering),
-            _ => gate::refused(self.answering, head, number, store),
+            0 => gate::quiet(self.responder),
+            _ => gate::refused(self.responder, head, number, store),
         };
         self.line(call, answered);
     }
@@ -204,7 +204,7 @@ fn strange(ask: &mut Ask) {
     }
 }
 
-/// Accepted frames at the answering end: id, type, repeat, address.
+/// Accepted frames at the responding end: id, type, repeat, address.
 const ARRIVALS: [(u8, u8, u8, u8); 10] = [
     (0, 1, 0, 9),
     (0, 2, 0, 9),
@@ -218,7 +218,7 @@ const ARRIVALS: [(u8, u8, u8, u8); 10] = [
     (0, 0, 1, 7),
 ];
 
-fn answering(respond: &mut Respond, head: bool) {
+fn responding(respond: &mut Respond, head: bool) {
     respond.fresh();
     for (id, kind, repeat, address) in ARRIVALS {
         respond.accepted(head, id, kind, repeat, address);
@@ -238,7 +238,7 @@ fn answering(respond: &mut Respond, head: bool) {
     respond.refused(head, 8, &[1, 2]);
     respond.refused(head, 8, &[1, 2, 3, 4]);
     for (handed, id) in [(true, 5), (false, 5)] {
-        respond.state(Answering { handed, id });
+        respond.state(Responder { handed, id });
         respond.refused(head, 8, &[5, 0, 1]);
         respond.accepted(head, 5, 1, 1, 3);
         respond.accepted(head, 5, 0, 1, 3);
@@ -268,7 +268,7 @@ pub fn gate_section() -> Lines {
     strange(&mut ask);
     let mut respond = Respond::new(ask.lines);
     for head in [false, true] {
-        answering(&mut respond, head);
+        responding(&mut respond, head);
     }
     let mut lines = respond.lines;
     for address in [0u8, 1, 2, 254, 255] {

@@ -91,7 +91,7 @@ pub fn generate(folder: &Path, seed: u64, count: usize) -> io::Result<Tally> {
         ("records", "reading", records::read),
         ("records", "making", records::made),
         ("gate", "asking", exchange::asking),
-        ("gate", "answering", exchange::answering),
+        ("gate", "responding", exchange::responding),
         ("gate", "chain", exchange::chain),
     ];
     for (part, name, sequence) in sorts {

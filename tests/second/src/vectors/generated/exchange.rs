@@ -1,7 +1,7 @@
-//! The gate exchange: an asking end and an answering end with any state, step after
+//! The gate exchange: an asking end and a responding end with any state, step after
 //! step, and the chain address.
 
-use crate::gate::{Answering, Asking};
+use crate::gate::{Asking, Responder};
 use crate::gen::{self, Xorshift};
 use crate::vectors::gate::{self, Ask, Respond};
 use crate::vectors::text::Lines;
@@ -64,18 +64,18 @@ fn arrived(random: &mut Xorshift, respond: &mut Respond) {
         let store = gen::contents(random, length);
         return respond.refused(head, number, &store);
     }
-    let id = if random.once_in(3) { gen::edge(random) } else { respond.answering.id };
+    let id = if random.once_in(3) { gen::edge(random) } else { respond.responder.id };
     let kind = if random.once_in(4) { gen::edge(random) } else { 0 };
     let repeat = if random.once_in(8) { gen::edge(random) } else { random.below(4) as u8 };
     respond.accepted(head, id, kind, repeat, gen::edge(random));
 }
 
-pub fn answering(random: &mut Xorshift) -> Lines {
+pub fn responding(random: &mut Xorshift) -> Lines {
     let mut respond = Respond::new(Lines::default());
     if random.once_in(4) {
         respond.fresh();
     } else {
-        respond.state(Answering { handed: random.once_in(2), id: gen::edge(random) });
+        respond.state(Responder { handed: random.once_in(2), id: gen::edge(random) });
     }
     for _ in 0..1 + random.below(10) {
         arrived(random, &mut respond);
@@ -109,8 +109,8 @@ mod tests {
         for _ in 0..50 {
             let lines = asking(&mut random).calls;
             assert!(lines.starts_with("ask fresh") || lines.starts_with("ask state"));
-            let lines = answering(&mut random).calls;
-            assert!(lines.starts_with("answer fresh") || lines.starts_with("answer state"));
+            let lines = responding(&mut random).calls;
+            assert!(lines.starts_with("respond fresh") || lines.starts_with("respond state"));
         }
     }
 }

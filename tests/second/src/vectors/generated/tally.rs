@@ -26,9 +26,9 @@ const ANSWERS: [(&str, &str); 24] = [
     ("ask start", "send 12 14"),
     ("ask tick", "nothing send given-up 12"),
     ("ask arrival", "nothing send done given-up 12"),
-    ("answer board", "silent reply handed"),
-    ("answer head", "silent reply handed"),
-    ("answer-refused", "silent reply"),
+    ("respond board", "silent reply handed"),
+    ("respond head", "silent reply handed"),
+    ("respond-refused", "silent reply"),
     ("chain", "gives 15"),
 ];
 
@@ -40,11 +40,11 @@ pub struct Tally(BTreeMap<(String, String), u64>);
 fn call_name(section: &str, words: &[&str]) -> Option<String> {
     match words {
         ["receive" | "part", ..] => Some(format!("{section} {}", words[0])),
-        ["ask", "start" | "tick" | "arrival", ..] | ["answer", "board" | "head", ..] => {
+        ["ask", "start" | "tick" | "arrival", ..] | ["respond", "board" | "head", ..] => {
             Some(format!("{} {}", words[0], words[1]))
         }
         ["copy" | "element" | "view-element" | "make", sign, ..] => Some(format!("{} {sign}", words[0])),
-        ["view" | "answer-refused" | "chain", ..] => Some(words[0].to_string()),
+        ["view" | "respond-refused" | "chain", ..] => Some(words[0].to_string()),
         _ => None,
     }
 }
@@ -121,15 +121,15 @@ mod tests {
         lines.add("receive 10", "used 1 nothing state 1 0 1 0 store 5");
         lines.add("receive 03", "used 1 refused 9 state 0 0 0 2 store 5");
         lines.add("part 2 0", "gives 0");
-        lines.add("answer head 1 0 0 7", "reply 1 1 0 7 handed 1 last 1");
-        lines.add("answer head 1 0 1 7", "reply 1 1 0 7 handed 0 last 1");
-        lines.add("answer head 1 1 0 7", "reply none handed 0 last 1");
+        lines.add("respond head 1 0 0 7", "reply 1 1 0 7 handed 1 last 1");
+        lines.add("respond head 1 0 1 7", "reply 1 1 0 7 handed 0 last 1");
+        lines.add("respond head 1 1 0 7", "reply none handed 0 last 1");
         let mut tally = Tally::default();
         tally.count("dle", &lines);
         assert_eq!(tally.0.values().sum::<u64>(), 6);
         assert_eq!((tally.seen("dle receive", "nothing"), tally.seen("dle part", "empty")), (1, 1));
         for answer in ["silent", "reply", "handed"] {
-            assert_eq!(tally.seen("answer head", answer), 1);
+            assert_eq!(tally.seen("respond head", answer), 1);
         }
         let missing = tally.missing();
         assert!(missing.contains(&String::from("dle receive can't answer 9 and did")));

@@ -1,4 +1,4 @@
-// Lines of the answering end.
+// Lines of the responding end.
 use expansion::Event;
 use gate::Reply;
 use vector_text::print;
@@ -8,12 +8,12 @@ use vector_text::words;
 fn show_reply(reply: Reply) {
     match reply {
         Reply::Nothing => print::word(b"reply none"),
-        Reply::Send(kind, id, address) => print::numbers(b"reply", &[id, kind, 0, address]),
+        Reply::Send(id, kind, address) => print::numbers(b"reply", &[id, kind, 0, address]),
     }
 }
 
 // Which id was handed out last, if one was.
-fn show_last(state: gate::Answering) {
+fn show_last(state: gate::Responder) {
     if state.handed {
         print::named(b"last", state.last as u64);
     } else {
@@ -21,17 +21,17 @@ fn show_last(state: gate::Answering) {
     }
 }
 
-fn answered(answer: gate::Answered) -> gate::Answering {
-    let reply = answer.reply;
+fn responded(response: gate::Response) -> gate::Responder {
+    let reply = response.reply;
     show_reply(reply);
-    print::named(b"handed", answer.handed_out as u64);
-    let state = answer.state;
+    print::named(b"handed", response.handed_out as u64);
+    let state = response.state;
     show_last(state);
     state
 }
 
-fn stated(line: &[u8]) -> gate::Answering {
-    gate::Answering {
+fn stated(line: &[u8]) -> gate::Responder {
+    gate::Responder {
         handed: words::is(line, 2, b"1"),
         last: words::byte(line, 3),
     }
@@ -47,15 +47,15 @@ fn accepted(line: &[u8]) -> Event {
     })
 }
 
-fn answer_accepted(line: &[u8], answering: gate::Answering) -> gate::Answering {
+fn respond_accepted(line: &[u8], responder: gate::Responder) -> gate::Responder {
     if words::is(line, 1, b"fresh") {
-        return gate::fresh_answering();
+        return gate::fresh_responder();
     }
     if words::is(line, 1, b"state") {
         return stated(line);
     }
     let event = accepted(line);
-    answered(gate::answer(answering, words::is(line, 1, b"head"), event, b""))
+    responded(gate::respond(responder, words::is(line, 1, b"head"), event, b""))
 }
 
 // What the receiver told is a refusal, or nothing where the number is 0.
@@ -66,19 +66,19 @@ fn refused(number: u8) -> Event {
     Event::Refused(number)
 }
 
-fn answer_refused(line: &[u8], answering: gate::Answering) -> gate::Answering {
+fn respond_refused(line: &[u8], responder: gate::Responder) -> gate::Responder {
     let mut store = io::buffer();
     let n = words::bytes(line, 3, b"", &mut store);
     let event = refused(words::byte(line, 2));
-    answered(gate::answer(answering, words::is(line, 1, b"head"), event, &store[..n]))
+    responded(gate::respond(responder, words::is(line, 1, b"head"), event, &store[..n]))
 }
 
-pub(crate) fn answer(line: &[u8], answering: gate::Answering) -> gate::Answering {
-    if words::is(line, 0, b"answer") {
-        return answer_accepted(line, answering);
+pub(crate) fn answer(line: &[u8], responder: gate::Responder) -> gate::Responder {
+    if words::is(line, 0, b"respond") {
+        return respond_accepted(line, responder);
     }
-    if words::is(line, 0, b"answer-refused") {
-        return answer_refused(line, answering);
+    if words::is(line, 0, b"respond-refused") {
+        return respond_refused(line, responder);
     }
-    answering
+    responder
 }
