@@ -1,6 +1,6 @@
 use borrow.Author.Needs.{needs}
-use Rattle.vectors_records.proofs.exchange.cycle.Statement.{statement}
-use Rattle.vectors_records.proofs.exchange.cycle.Tie as tie
+use Rattle.vectors_gate.proofs.asking.cycle.Statement.{statement}
+use Rattle.vectors_gate.proofs.asking.cycle.Tie as tie
 
 -- nothing: the calls take any state, and no promise is made on the last one
 abbrev Inv-loop : tie.InvT-loop

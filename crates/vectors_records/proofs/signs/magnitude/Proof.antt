@@ -1,7 +1,7 @@
 use native.Mathlib.Omega.{arith}
 use Rattle.record.proofs.Complement.{negative, positive, cast-ok}
-use Rattle.vectors_records.proofs.records.magnitude.Statement.{statement}
-use Rattle.vectors_records.proofs.records.magnitude.Tie as tie
+use Rattle.vectors_records.proofs.signs.magnitude.Statement.{statement}
+use Rattle.vectors_records.proofs.signs.magnitude.Tie as tie
 
 cast-result : tie.Need-cast-result
 cast-result c = cast-ok _ _ (negative _ (c .before .fits .value) (c .if1 .taken)) (omega arith)
