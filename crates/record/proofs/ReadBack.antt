@@ -17,7 +17,7 @@ use Rattle.runs.proofs.Number.{number-bytesOf, length-bytesOf}
 use Rattle.runs.proofs.Run.{part-sets}
 use Rattle.framing.specs.Answer.{done}
 use Rattle.framing.proofs.Stored.{stored-done}
-use Rattle.record.specs.Numbers.{numbers, bytesOfAll, every}
+use Rattle.record.specs.Numbers.{numbers, every}
 use Rattle.record.specs.Form.{sizeOf, signedOf, kindOf, addressOf, countOf, allowed, wellFormed}
 use Rattle.record.specs.Fares.{Signedness, unsignedFares, signedFares, same, faresOf, fareAt, writable, elements, recordBytes}
 use Rattle.record.specs.Answers.{copying, reading, writing}

@@ -2,7 +2,7 @@
 use Prim.Native.Nat.{ℕ, _+_, _*_, _≤_, _<_}
 use mathlib.Core.Path.{_≡_, refl, sym, ap, _∙_}
 use mathlib.Core.Bool.{Bool, true, false, _&&_}
-use mathlib.Core.List.{List, _∷_, _++_, map}
+use mathlib.Core.List.{List, _∷_, _++_}
 use native.Mathlib.Omega.{arith}
 use lib.ListN.{length, length-append, length-map}
 use lib.Seq.{sets}
@@ -12,7 +12,7 @@ use Rattle.runs.proofs.Run.{sets-append}
 use Rattle.framing.specs.Answer.{done, refused}
 use Rattle.framing.proofs.Stored.{stored-done, stored-refused}
 use Rattle.record.specs.declared.form.Form.{Form}
-use Rattle.record.specs.Numbers.{bytesOfAll, every}
+use Rattle.record.specs.Numbers.{every}
 use Rattle.record.specs.Form.{formOf, sizeOf, allowed}
 use Rattle.record.specs.Fares.{Signedness, same, writable, elements, recordBytes}
 use Rattle.record.specs.Answers.{writing}
