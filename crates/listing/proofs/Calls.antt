@@ -8,7 +8,7 @@ use lib.ListN.{length, drop}
 use Rattle.runs.proofs.Cases.{by-test, by-leb}
 use Rattle.framing.specs.Receiver.{Fed, feed, onward, drivePiece}
 use Rattle.framing.specs.Segment.{Event, message, refusal}
-use Rattle.framing.specs.Link.{Link, Lent, Told, stepOn, callOn, told, answer, called}
+use Rattle.framing.specs.Link.{Link, Lent, Told, stepOn, callOn, told, receives, called}
 use Rattle.framing.proofs.Feed.{used-le, used-some}
 use Rattle.pcs.specs.Contract as Pcs
 use Rattle.mdu.specs.Contract as Mdu
@@ -22,7 +22,7 @@ use Rattle.listing.specs.declared.receiver.Receiver.the-variants as rece
 
 module _ (L : Link) (f : L .Message → Line) (k : L .State → Receiver) where
   -- a call by the answer of the link's receiver
-  pub lines-is : (c : Lent L) (piece : List ℕ) {t : Told (L .Numbers)} {used : ℕ} {after : Lent L} → (t, used, after) ≡ answer L c piece
+  pub lines-is : (c : Lent L) (piece : List ℕ) {t : Told (L .Numbers)} {used : ℕ} {after : Lent L} → (t, used, after) ≡ receives L c piece
       → {o : Option Line} → o ≡ lineTold L f (after .1) t → record { event = o; used = used; after = heldOf L k after } ≡ linesOf L f k c piece
   lines-is c piece {t} {used} {after} e {o} h =
       ap (λ (x : Option Line). record { event = x; used = used; after = heldOf L k after }) h
