@@ -14,7 +14,7 @@ use Rattle.expansion.specs.Frame.{Message, ok, enclose, frame}
 use Rattle.expansion.specs.Rules.{size, gathered}
 use Rattle.expansion.specs.Contract.{phaseOf, link}
 
--- the longest frame has 2,066 bytes on the wire
+-- no frame has more than 2,066 bytes on the wire
 abbrev pub FrameBound : Type 0
 FrameBound = (m : Message) → ok m ≡ true → length (frame m) ≤ 2066
 
