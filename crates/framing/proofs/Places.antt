@@ -1,14 +1,15 @@
 -- What a call leaves in the store, over any link that shows it of each byte.
 use Prim.Native.Nat.{ℕ, suc, _+_, _-_, _≤_, _<_}
 use mathlib.Core.Path.{_≡_, refl, ap, sym, _∙_, subst}
-use mathlib.Core.Bool.{true}
-use mathlib.Core.List.{List, [], _∷_, _++_}
+use mathlib.Core.Bool.{Bool, true, false}
+use mathlib.Core.List.{List, [], _∷_, _++_, append-nil}
 use mathlib.Core.Option.{Option, none, some}
 use native.Mathlib.Numerals.{one-add}
 use native.Mathlib.Omega.{arith}
-use lib.ListN.{length, getD, take, drop, length-append, length-drop, List·getD-append}
-use lib.Seq.{take-append-seam, drop-append-add, getD-append-add, getD-drop, drop-drop}
-use borrow.Author.Tests.{le-leb}
+use lib.ListN.{length, getD, take, drop, length-append, length-drop, take-append-drop, List·getD-append}
+use lib.Seq.{length-take-le, take-all, drop-length, take-append-seam, drop-append-add, getD-append-add, getD-drop, drop-drop}
+use lib.Dec.{leb}
+use borrow.Author.Tests.{le-leb, leb-true, leb-false}
 use Rattle.runs.specs.Runs.{over}
 use Rattle.framing.specs.Receiver.{Fed, stop, feed}
 use Rattle.framing.specs.Segment.{Segment, Event, eventOf}
@@ -31,12 +32,20 @@ module _ (run memory : List ℕ) where
   over-long h = simp (length-append, length-drop) (omega arith)
 
 -- a run that is no shorter hides the one below it
-over-over : (long short memory : List ℕ) → length short ≤ length long → over long (over short memory) ≡ over long memory
+pub over-over : (long short memory : List ℕ) → length short ≤ length long → over long (over short memory) ≡ over long memory
 over-over long short memory h =
     let e : length long ≡ length short + (length long - length short) = omega arith in
     ap (λ (x : List ℕ). long ++ x)
     (ap (λ (k : ℕ). drop k (over short memory)) e ∙ drop-append-add short (drop (length short) memory) (length long - length short)
     ∙ drop-drop (length long - length short) (length short) memory ∙ ap (λ (k : ℕ). drop k memory) (sym e))
+
+-- the first bytes of memory, laid over it, change nothing
+pub over-first : (n : ℕ) (memory : List ℕ) → over (take n memory) memory ≡ memory
+over-first n memory = go (leb n (length memory)) refl
+  where
+    go : (t : Bool) → leb n (length memory) ≡ t → over (take n memory) memory ≡ memory
+    go true e = rw (length-take-le n memory (leb-true n (length memory) e)) (take-append-drop n memory)
+    go false e = let l = leb-false n (length memory) e in rw (take-all n memory (omega arith), drop-length memory) (append-nil memory)
 
 pub places-over : (d g before after : List ℕ) → length d ≤ length before → length g ≤ length before → after ≡ over d (over g before) → Places d g before after
 places-over d g before after h k e =

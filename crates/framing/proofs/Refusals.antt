@@ -1,15 +1,18 @@
 -- Which numbers a link refuses with: what each link has to show of each byte and of some streams, and what follows of streams, calls and reads.
-use Prim.Native.Nat.{ℕ, _+_, _≤_, _<_}
+use Prim.Native.Nat.{ℕ, zero, suc, _+_, _≤_, _<_}
 use mathlib.Core.Path.{_≡_, refl, ap, sym, _∙_, subst}
-use mathlib.Core.Bool.{Bool, true, false, cond, _||_, false≢true}
-use mathlib.Core.List.{List, [], _∷_, _++_}
+use mathlib.Core.Bool.{Bool, true, false, cond, _&&_, _||_, false≢true}
+use mathlib.Core.List.{List, [], _∷_, _++_, append-nil}
 use mathlib.Core.Option.{Option, none, some}
 use native.Mathlib.Nat.{le-refl}
 use native.Mathlib.Omega.{arith}
-use lib.Dec.{eqb, leb, lit<}
-use lib.ListN.{length, drop, replicate, length-replicate}
-use borrow.Author.Tests.{eqb-true, eq-eqb, lt-leb, le-leb}
+use lib.Dec.{eqb, leb, ltb, lit<}
+use lib.ListN.{length, drop, replicate, length-append, length-replicate}
+use lib.Seq.{append-snoc}
+use borrow.Author.Tests.{eqb-true, ltb-true, lt-leb, le-leb}
 use Rattle.runs.specs.Runs.{Bytes}
+use Rattle.runs.proofs.Bytes.{bytes-one, bytes-more, bytes-append}
+use Rattle.runs.proofs.Cases.{and-both}
 use Rattle.framing.specs.Answer.{Outcome, done, storedAt}
 use Rattle.framing.specs.Answer as Answer
 use Rattle.framing.specs.Receiver.{Fed, emit, stop, feed, events}
@@ -18,8 +21,8 @@ use Rattle.framing.specs.Link.{Link, Lent, Told, nothing, accepted, refu
 use Rattle.framing.specs.Claims.{AllOf, segments}
 use Rattle.framing.specs.Whole.{settle, exactly, readOn}
 use Rattle.framing.specs.Refusals.{isIn, StreamGives, GivesExactly, CallGives, ReceiveGives, ReadGives, ReadsGive, WritesGive}
-use Rattle.framing.proofs.Feed.{events-feed}
-use Rattle.framing.proofs.Segments.{step, heard-events}
+use Rattle.framing.proofs.Feed.{events-feed, Quiet, quiet-nil, quiet-cons, quiet-append, feed-event}
+use Rattle.framing.proofs.Segments.{Config, step, step-open, step-refused, heard-events}
 use Rattle.framing.proofs.Lawful.{Lawful, at, fresh-follows}
 
 differ : {A : Type 0} → _≡_ {A = ℕ} 0 1 → A
@@ -40,6 +43,22 @@ in-more n ms m h = go (eqb n m)
     go : (t : Bool) → t || isIn n ms ≡ true
     go true = refl
     go false = h
+
+none-bytes : Bytes []
+none-bytes i = lit< tt
+
+-- bytes, by a test that the checker works out
+abbrev pub small : List ℕ → Bool
+small [] = true
+small (b ∷ bs) = ltb b 256 && small bs
+
+small-bytes : (bs : List ℕ) → small bs ≡ true → Bytes bs
+small-bytes [] h = none-bytes
+small-bytes (b ∷ bs) h = let t = and-both (ltb b 256) (small bs) h in bytes-append (b ∷ []) bs (bytes-one b (ltb-true b 256 (t .0))) (small-bytes bs (t .1))
+
+replicate-bytes : (n b : ℕ) → b < 256 → Bytes (replicate n b)
+replicate-bytes zero b h = none-bytes
+replicate-bytes (suc n) b h = bytes-append (b ∷ []) (replicate n b) (bytes-one b h) (replicate-bytes n b h)
 
 -- either of two that a test picks
 pub either : {A : Type 0} (P : A → Type 0) (t : Bool) {x y : A} → P x → P y → P (cond t x y)
@@ -95,6 +114,33 @@ module _ (L : Link) where
     pub bytes : Bytes stream
     pub hears : feed (step (L .onByte)) (at (L .hunting) 0) stream .event ≡ some (refusal n)
 
+  -- bytes that the checker reads
+  pub shown : (n : ℕ) (stream : List ℕ) → small stream ≡ true → feed (step (L .onByte)) (at (L .hunting) 0) stream .event ≡ some (refusal n) → First n
+  shown n stream y e = record { stream = stream; bytes = small-bytes stream y; hears = e }
+
+  -- a start and then one byte again and again, gathered until the link's size is reached
+  module _ (inside : List ℕ → L .Phase) (b : ℕ) (more : (g : List ℕ) → length g < L .size → L .onByte (inside g) b ≡ (inside (g ++ (b ∷ [])), none)) where
+    fills : (n : ℕ) (g : List ℕ) → length g + n ≤ L .size
+        → Quiet (step (L .onByte)) (at (inside g) 0) (replicate n b) (at (inside (g ++ replicate n b)) 0)
+    fills zero g h = rw append-nil (quiet-nil (step (L .onByte)) (at (inside g) 0))
+    fills (suc n) g h =
+        quiet-cons (step (L .onByte)) (step-open (L .onByte) (inside g) (inside (g ++ (b ∷ []))) 0 b (more g (omega arith)))
+        (rw append-snoc at (fills n (g ++ (b ∷ [])) (simp length-append (omega arith))))
+
+    pub too-long : (n : ℕ) (start : List ℕ) → Bytes start → b < 256 → Quiet (step (L .onByte)) (at (L .hunting) 0) start (at (inside []) 0)
+        → ((g : List ℕ) → length g ≡ L .size → (wire : List ℕ) × (L .onByte (inside g) b ≡ (L .hunting, some (refusedFrame n wire)))) → First n
+    too-long n start y z opens full =
+        let run : List ℕ = replicate (L .size) b in
+        let long : length run ≡ L .size = length-replicate (L .size) b in
+        let over = full run long in
+        record {
+          stream = start ++ run ++ (b ∷ []) ++ [];
+          bytes = bytes-append (start ++ run ++ (b ∷ [])) [] (bytes-more (start ++ run) b (bytes-append start run y (replicate-bytes (L .size) b z)) z) none-bytes;
+          hears = ap (λ (f : Fed (Event (L .Message)) (Config (L .Phase))). f .event)
+              (feed-event (step (L .onByte)) (start ++ run) b [] (quiet-append (step (L .onByte)) start opens (fills (L .size) [] (omega arith)))
+              (step-refused (L .onByte) (inside run) (L .hunting) 0 b n (over .0) (over .1)));
+        }
+
   -- what a link has to show: no byte closes a frame with another number, and each is the first that some stream gives; some state is unknown
   pub record Given (numbers : List ℕ) : Type 0 where
     pub only : (p : L .Phase) (b : ℕ) → Closes numbers (L .onByte p b .1)
@@ -136,9 +182,6 @@ module _ (L : Link) where
 
     fresh-known : L .known (L .fresh) ≡ true
     fresh-known = ap (L .known) (laws .fresh-first) ∙ laws .known-of (L .hunting) 0 (laws .reached .good-first)
-
-    none-bytes : Bytes []
-    none-bytes i = lit< tt
 
     first-called : (n : ℕ) (f : First n) → callOn L (L .fresh, store) (f .stream) .event ≡ some (refusal n)
     first-called n f = fresh-follows L laws store (f .stream) (f .bytes) room .0 ∙ f .hears

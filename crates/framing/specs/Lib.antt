@@ -1,8 +1,9 @@
--- Answers; any receiver as a machine; a stream cut into segments; the receiver state; calls of a writer; a link; what is claimed of every link; a
--- host's call on a whole frame; which numbers a link refuses with; what a call leaves in the store. `Passing` serves private functions only.
+-- Answers; any receiver as a machine; a stream cut into segments; tests in their order; the receiver state; calls of a writer; a link; what is claimed of
+-- every link; a host's call on a whole frame; which numbers a link refuses with; what a call leaves in the store. `Passing` serves private functions.
 pub mod Answer
 pub mod Receiver
 pub mod Segment
+pub mod Tests
 pub mod State
 pub mod Writer
 pub mod Link
