@@ -2,6 +2,7 @@
 -- back, `Lawful` that the link is lawful, `Theorems` the claims. `Written` is for the writer's functions, `Steps` and `Passing` for the
 -- receiver's.
 pub mod Body
+pub mod Typed
 pub mod Bytes
 pub mod OnByte
 pub mod Readback

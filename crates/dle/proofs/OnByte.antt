@@ -19,6 +19,7 @@ use Rattle.escape.proofs.Dle.{dle-lawful}
 use Rattle.dle.specs.Frame.{Message, ok, body, enclose}
 use Rattle.dle.specs.Rules.{Phase, hunting, half, inside, size, gathered, held, judge, gather, act, onByte}
 use Rattle.dle.specs.Contract.{link}
+use Rattle.dle.proofs.Typed.{typed}
 use Rattle.dle.proofs.Body.{error-body, content-body, length-ok, message-back}
 
 -- no more is gathered than the store holds
@@ -70,6 +71,7 @@ judge-takes g wire h e =
     (λ m t. closes reached g wire [] (acceptedFrame m) (ap enclose (t .0) ∙ e) (omega arith)
     (record {
       may = t .1 h;
+      typed = typed m;
       read = λ store front. message-back m store (t .1 h) (rw (t .0) front);
       hunts = refl;
     }))

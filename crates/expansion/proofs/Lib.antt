@@ -2,6 +2,7 @@
 -- `Lawful`, `Refused`, `Theorems`: the claims. `Count`, `Store`, `Passing`: for the receiver's code. `Laid`: for the writer's.
 pub mod Hidden
 pub mod Judge
+pub mod Typed
 pub mod OnByte
 pub mod Readback
 pub mod Lawful

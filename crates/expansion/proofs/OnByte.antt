@@ -22,6 +22,7 @@ use Rattle.expansion.specs.Contract.{numbersOf, messageOf, link}
 use Rattle.runs.proofs.Each.{each-nil}
 use Rattle.expansion.proofs.Hidden.{Meant, meant}
 use Rattle.expansion.proofs.Judge.{content, content-in, ok-in}
+use Rattle.expansion.proofs.Typed.{typed}
 
 -- what is gathered are bytes, and no more than the store holds
 abbrev pub Good : Phase → Type 0
@@ -82,6 +83,7 @@ judge-takes g wire h e =
     (λ m t. closes reached g wire [] (acceptedFrame m) (ap enclose (t h .0) ∙ e) (omega arith)
     (record {
       may = t h .1;
+      typed = λ _. typed m (subst Bytes (sym (t h .0)) (h .0));
       read = λ store stands. read-back m store (subst (λ (x : List ℕ). take (length x) store ≡ x) (sym (t h .0)) stands);
       hunts = refl;
     }))

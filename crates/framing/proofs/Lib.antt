@@ -10,6 +10,8 @@ pub mod Byte
 pub mod Lawful
 pub mod Wire
 pub mod Whole
+pub mod Refusals
+pub mod Places
 pub mod States
 pub mod Loop
 pub mod Passing

@@ -5,7 +5,7 @@ use record::RecordView;
 use vector_text::print;
 use vector_text::words;
 ghost use mathlib.Core.Path.{_≡_};
-ghost use Rattle.record.specs.Form.{head, headOf};
+ghost use Rattle.record.specs.Form.{header, headerOf};
 ghost use Rattle.record.specs.Answers.{viewing, outcomesOf};
 
 // What a view of a payload has.
@@ -15,7 +15,7 @@ struct Fields {
 }
 
 fn fields_of(payload: &[u8]) -> Fields
-    ensures { λ r. ⌜ head (r .kind) (r .count) ≡ headOf (now (payload .entry)) ⌝ }
+    ensures { λ r. ⌜ header (r .kind) (r .count) ≡ headerOf (now (payload .entry)) ⌝ }
 {
     let view = record::view(payload);
     Fields {
