@@ -10,7 +10,7 @@ ghost use mathlib.Core.Path.{_≡_};
 ghost use mathlib.Core.List.{[], _∷_, _++_};
 ghost use Prim.Native.Nat.{ℕ, _+_, _*_, _-_, _/_, _%_, _^_, _≤_, _<_};
 ghost use lib.ListN.{length, take, drop};
-ghost use Rattle.runs.specs.Number.{number};
+ghost use Rattle.runs.specs.Number.{littleEndian};
 ghost use Rattle.checksum.specs.Crc.{shifts, run, crc16Of, crc32Of};
 ghost use Rattle.checksum.specs.Tables.{NibbleTable, BraidTable, AfterBytes};
 ghost use Rattle.checksum.specs.Braids.{StandsFor, Braided};
@@ -97,7 +97,7 @@ fn pair(low: u8, high: u8) -> u32
 // The number of the four bytes from a place on, low byte first.
 fn word(bytes: &[u8], at: usize) -> u32
     requires { ⌜ at + 4 ≤ length (now bytes) ⌝ }
-    ensures { λ r. ⌜ r ≡ number (take 4 (drop at (now (bytes .entry)))) ⌝ }
+    ensures { λ r. ⌜ r ≡ littleEndian (take 4 (drop at (now (bytes .entry)))) ⌝ }
 {
     pair(bytes[at + 2], bytes[at + 3]) * 0x1_0000 + pair(bytes[at], bytes[at + 1])
 }

@@ -15,7 +15,7 @@ use Rattle.dle.specs.Frame.{frame}
 use Rattle.dle.specs.Rules.{Phase, hunting, half, inside, size, gathered, held}
 use Rattle.dle.specs.Contract.{modeOf, phaseOf, link}
 use Rattle.dle.proofs.Bytes.{frame-bytes}
-use Rattle.dle.proofs.Cut.{reached, takes}
+use Rattle.dle.proofs.OnByte.{reached, takes}
 use Rattle.dle.proofs.Readback.{reads-frame}
 
 abbrev stateIn : Phase → ℕ → State

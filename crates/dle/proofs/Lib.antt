@@ -1,9 +1,9 @@
--- `Payload` has the payloads of messages, `Bytes` that frames are bytes, `Cut` what each byte does by the rules, `Readback` that frames read
+-- `Body` has the bodies of messages, `Bytes` that frames are bytes, `OnByte` what each byte does by the rules, `Readback` that frames read
 -- back, `Lawful` that the link is lawful, `Theorems` the claims. `Written` is for the writer's functions, `Steps` and `Passing` for the
 -- receiver's.
-pub mod Payload
+pub mod Body
 pub mod Bytes
-pub mod Cut
+pub mod OnByte
 pub mod Readback
 pub mod Lawful
 pub mod Theorems

@@ -16,12 +16,12 @@ ghost use Rattle.framing.specs.Answer.{outcomeOf, storedAt};
 ghost use Rattle.framing.specs.Writer.{writes};
 ghost use Rattle.framing.specs.Receiver.{feed};
 ghost use Rattle.framing.specs.Segment.{eventOf};
-ghost use Rattle.framing.specs.Link.{isEvent, told, stepOn, answered, answer};
+ghost use Rattle.framing.specs.Link.{isEvent, told, stepOn, reported, receives};
 ghost use Rattle.escape.specs.Code.{meaningOf};
 ghost use Rattle.dle.specs.Frame.{content, error, ok, enclose, frame};
-ghost use Rattle.dle.specs.Rules.{hunting, half, size, gathered, judge, gather, act, cut};
-ghost use Rattle.dle.specs.Contract.{phaseOf, dataOf, link, toldOf, answerOf};
-ghost use Rattle.dle.specs.Steps.{Answers, Open, Passes};
+ghost use Rattle.dle.specs.Rules.{hunting, half, size, gathered, judge, gather, act, onByte};
+ghost use Rattle.dle.specs.Contract.{phaseOf, dataOf, link, toldOf, receivedOf};
+ghost use Rattle.dle.specs.Steps.{ByRules, Open, Passes};
 
 // The least store of a receiver: a header of 3 bytes and data of at most 255.
 const SIZE: usize = 258;
@@ -133,7 +133,7 @@ pub fn write_error(sequence: u8, node: u8, code: u8, out: &mut [u8]) -> Answer
 // Hunting: a 10 waits, any other byte is noise.
 fn hunt(state: State, byte: u8) -> Stepped
     requires { ⌜ state .mode ≡ 0 ⌝ }
-    ensures { λ r. ⌜ Answers state (cut hunting byte) r ⌝ }
+    ensures { λ r. ⌜ ByRules state (onByte hunting byte) r ⌝ }
 {
     if byte == 0x10 {
         Stepped {
@@ -151,7 +151,7 @@ fn hunt(state: State, byte: u8) -> Stepped
 // Hunting, after a 10: a 02 opens a frame, any other byte is noise with the 10.
 fn begin(state: State, byte: u8) -> Stepped
     requires { ⌜ state .mode ≡ 1 ⌝ }
-    ensures { λ r. ⌜ Answers state (cut half byte) r ⌝ }
+    ensures { λ r. ⌜ ByRules state (onByte half byte) r ⌝ }
 {
     if byte == 0x02 {
         Stepped {
@@ -169,7 +169,7 @@ fn begin(state: State, byte: u8) -> Stepped
 // One more byte of the frame is gathered, unless it is one too many.
 fn gather_byte(state: State, store: &mut [u8], byte: u8) -> Stepped
     requires { ⌜ Open state (now store) ⌝ }
-    ensures stepped { λ r. ⌜ ((wire : List ℕ) → Answers state (gather (take (state .count) (now (store .entry))) byte wire) r) ⌝ }
+    ensures stepped { λ r. ⌜ ((wire : List ℕ) → ByRules state (gather (take (state .count) (now (store .entry))) byte wire) r) ⌝ }
     ensures stored { λ r. ⌜ ((wire : List ℕ) → now (store .exit) ≡ over (gathered (gather (take (state .count) (now (store .entry))) byte wire .0)) (now (store .entry))) ⌝ }
 {
     let at = state.count;
@@ -231,7 +231,7 @@ fn judge_frame(store: &[u8], count: usize) -> Event
 // A wire byte of an open frame, by its meaning.
 fn act_on(state: State, store: &mut [u8], meaning: Meaning) -> Stepped
     requires { ⌜ Open state (now store) ⌝ }
-    ensures stepped { λ r. ⌜ ((wire : List ℕ) → Answers state (act (take (state .count) (now (store .entry))) wire (meaningOf meaning)) r) ⌝ }
+    ensures stepped { λ r. ⌜ ((wire : List ℕ) → ByRules state (act (take (state .count) (now (store .entry))) wire (meaningOf meaning)) r) ⌝ }
     ensures stored { λ r. ⌜ ((wire : List ℕ) → now (store .exit) ≡ over (gathered (act (take (state .count) (now (store .entry))) wire (meaningOf meaning) .0)) (now (store .entry))) ⌝ }
 {
     match meaning {
@@ -261,8 +261,8 @@ fn act_on(state: State, store: &mut [u8], meaning: Meaning) -> Stepped
 // One byte, in any mode.
 fn step(state: State, store: &mut [u8], byte: u8) -> Stepped
     requires { ⌜ (state .count ≤ size) × (size ≤ length (now store)) ⌝ }
-    ensures stepped { λ r. ⌜ Answers state (cut (phaseOf state (now (store .entry))) byte) r ⌝ }
-    ensures stored { λ r. ⌜ now (store .exit) ≡ over (gathered (cut (phaseOf state (now (store .entry))) byte .0)) (now (store .entry)) ⌝ }
+    ensures stepped { λ r. ⌜ ByRules state (onByte (phaseOf state (now (store .entry))) byte) r ⌝ }
+    ensures stored { λ r. ⌜ now (store .exit) ≡ over (gathered (onByte (phaseOf state (now (store .entry))) byte .0)) (now (store .entry)) ⌝ }
 {
     let mode = state.mode;
     if mode == 0 {
@@ -360,7 +360,7 @@ fn advance(state: State, store: &mut [u8], piece: &[u8], from: usize) -> Reached
 // The bytes of a piece, until one makes an event.
 fn scan(state: State, store: &mut [u8], piece: &[u8]) -> Received
     requires { ⌜ (state .count ≤ size) × (size ≤ length (now store)) ⌝ }
-    ensures { λ r. ⌜ answerOf r (now (store .exit)) ≡ answered link (feed (stepOn link) (state, now (store .entry)) (now (piece .entry))) ⌝ }
+    ensures { λ r. ⌜ receivedOf r (now (store .exit)) ≡ reported link (feed (stepOn link) (state, now (store .entry)) (now (piece .entry))) ⌝ }
 {
     let mut current = state;
     let mut i = 0;
@@ -392,7 +392,7 @@ fn scan(state: State, store: &mut [u8], piece: &[u8]) -> Received
 
 // A call of the receiver: uses the bytes of the piece until one makes an event, that one included.
 pub fn receive(state: State, store: &mut [u8], piece: &[u8]) -> Received
-    ensures { λ r. ⌜ answerOf r (now (store .exit)) ≡ answer link (state, now (store .entry)) (now (piece .entry)) ⌝ }
+    ensures { λ r. ⌜ receivedOf r (now (store .exit)) ≡ receives link (state, now (store .entry)) (now (piece .entry)) ⌝ }
 {
     if framing::is_known(state, 4, 2, SIZE) {
         if SIZE <= store.len() {

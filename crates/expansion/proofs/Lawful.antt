@@ -21,7 +21,7 @@ use Rattle.expansion.specs.Rules.{Phase, hunting, inside, size, gathered
 use Rattle.expansion.specs.Contract.{modeOf, phaseOf, link}
 use Rattle.escape.proofs.Expansion.{expansion-bytes}
 use Rattle.expansion.proofs.Judge.{content, content-bytes}
-use Rattle.expansion.proofs.Cut.{Good, reached, takes}
+use Rattle.expansion.proofs.OnByte.{Good, reached, takes}
 use Rattle.expansion.proofs.Readback.{reads-frame}
 
 -- the state of a phase is known, and stands for the phase

@@ -9,9 +9,9 @@ use lib.Dec.{eqb, leb}
 use lib.ListN.{length, getD, take, drop}
 use lib.Seq.{length-take-le, take-take, getD-take, take-add, drop-at}
 use borrow.Author.Tests.{le-ltb}
-use Rattle.runs.specs.Number.{number}
-use Rattle.framing.specs.Segment.{Segment, refused, accepted, eventOf}
-use Rattle.framing.specs.Link.{Told, told, numbers}
+use Rattle.runs.specs.Number.{littleEndian}
+use Rattle.framing.specs.Segment.{Segment, refusedFrame, acceptedFrame, eventOf}
+use Rattle.framing.specs.Link.{Told, told, accepted}
 use Rattle.checksum.specs.Crc.{crc32Of}
 use Rattle.expansion.specs.Frame.{Message, kindOk}
 use Rattle.expansion.specs.Rules.{checkRight, fieldsOk, messageIn, judge}
@@ -28,7 +28,7 @@ module _ (store : List ℕ) (k : ℕ) (high : k ≤ length store) where
   long : length (take k store) ≡ k
   long = length-take-le k store high
 
-  pub check-here : 4 ≤ k → checkRight (take k store) ≡ eqb (number (take 4 (drop (k - 4) store))) (crc32Of (take (k - 4) store))
+  pub check-here : 4 ≤ k → checkRight (take k store) ≡ eqb (littleEndian (take 4 (drop (k - 4) store))) (crc32Of (take (k - 4) store))
   check-here low =
       let n : k - 4 + 4 ≡ k = omega arith in
       let sent : drop (k - 4) (take k store) ≡ take 4 (drop (k - 4) store) =
@@ -54,15 +54,15 @@ module _ (store : List ℕ) (k : ℕ) (high : k ≤ length store) where
         }
 
     module _ (wire : List ℕ) where
-      pub judge-check : checkRight (take k store) ≡ false → judge (take k store) wire ≡ refused 8 wire
+      pub judge-check : checkRight (take k store) ≡ false → judge (take k store) wire ≡ refusedFrame 8 wire
       judge-check c = rw (le-ltb (length (take k store)) 8 (omega (arith, long)), c)
 
       module _ (c : checkRight (take k store) ≡ true) where
-        pub judge-fields : fieldsOk (take k store) ≡ false → judge (take k store) wire ≡ refused 9 wire
+        pub judge-fields : fieldsOk (take k store) ≡ false → judge (take k store) wire ≡ refusedFrame 9 wire
         judge-fields f = rw (le-ltb (length (take k store)) 8 (omega (arith, long)), c, f)
 
         pub judge-accepts : fieldsOk (take k store) ≡ true → told link (eventOf (some (judge (take k store) wire)))
-            ≡ numbers (record { id = getD store 0 0; kind = getD store 1 0; repeat = getD store 2 0; address = getD store 3 0; length = k - 8 })
+            ≡ accepted (record { id = getD store 0 0; kind = getD store 1 0; repeat = getD store 2 0; address = getD store 3 0; length = k - 8 })
         judge-accepts f =
-            let e : judge (take k store) wire ≡ accepted (messageIn (take k store)) = rw (le-ltb (length (take k store)) 8 (omega (arith, long)), c, f) in
-            ap toldSegment e ∙ ap numbers numbers-here
+            let e : judge (take k store) wire ≡ acceptedFrame (messageIn (take k store)) = rw (le-ltb (length (take k store)) 8 (omega (arith, long)), c, f) in
+            ap toldSegment e ∙ ap accepted numbers-here

@@ -7,7 +7,7 @@ use mathlib.Core.Option.{some}
 use lib.ListN.{length, take}
 use Rattle.runs.specs.Runs.{Bytes}
 use Rattle.framing.specs.Receiver.{last, drive, join}
-use Rattle.framing.specs.Segment.{Segment, refused, refusal, wires}
+use Rattle.framing.specs.Segment.{Segment, refusedFrame, refusal, wires}
 use Rattle.framing.specs.Link.{Lent, stepOn, callOn, called}
 use Rattle.framing.specs.Claims.{segments}
 use Rattle.expansion.specs.Frame.{Message, ok, enclose, frame}
@@ -37,7 +37,7 @@ RefusedHeader =
 -- the last segment of a stream is a frame refused with 8: on the wire it is g, hidden between the marks, and g stands at the start of the store
 pub record RefusedFrame (stream store g : List ℕ) : Type 0 where
   pub before : List (Segment Message)
-  pub ends : segments link stream ≡ before ++ (refused 8 (enclose g) ∷ [])
+  pub ends : segments link stream ≡ before ++ (refusedFrame 8 (enclose g) ∷ [])
   pub wire : stream ≡ wires frame before ++ enclose g
   pub stands : Stands g store
 

@@ -5,8 +5,8 @@ use mathlib.Core.List.{List, [], _∷_, _++_}
 use mathlib.Core.Option.{Option, none, some}
 use lib.ListN.{length, getD, take, drop}
 use lib.Dec.{eqb, leb, ltb}
-use Rattle.runs.specs.Number.{number}
-use Rattle.framing.specs.Segment.{Segment, noise, refused, accepted}
+use Rattle.runs.specs.Number.{littleEndian}
+use Rattle.framing.specs.Segment.{Segment, noise, refusedFrame, acceptedFrame}
 use Rattle.checksum.specs.Crc.{crc32Of}
 use Rattle.escape.specs.Code.{Meaning, byte, waits, start, end, wrong, meaning, hide}
 use Rattle.escape.specs.Expansion as Escape
@@ -32,7 +32,7 @@ held (inside w g) = 0xFD ∷ (hide Escape.expansion g ++ cond w (0xFF ∷ []) []
 
 -- the CRC as sent, in the last four bytes, is that of those before it
 abbrev pub checkRight : List ℕ → Bool
-checkRight g = eqb (number (drop (length g - 4) g)) (crc32Of (take (length g - 4) g))
+checkRight g = eqb (littleEndian (drop (length g - 4) g)) (crc32Of (take (length g - 4) g))
 
 -- a known type, a repeat of at most 3, and no data with types 1 and 2
 abbrev pub fieldsOk : List ℕ → Bool
@@ -46,23 +46,23 @@ messageIn g =
 -- the end of a frame of these wire bytes: 6 below the least size, then 8 where the CRC differs, then 9
 abbrev pub judge : List ℕ → List ℕ → Segment Message
 judge g wire =
-    cond (ltb (length g) 8) (refused 6 wire)
-    (cond (checkRight g) (cond (fieldsOk g) (accepted (messageIn g)) (refused 9 wire)) (refused 8 wire))
+    cond (ltb (length g) 8) (refusedFrame 6 wire)
+    (cond (checkRight g) (cond (fieldsOk g) (acceptedFrame (messageIn g)) (refusedFrame 9 wire)) (refusedFrame 8 wire))
 
 -- one more byte is gathered, or 5 where it is one too many
 abbrev pub gather : List ℕ → ℕ → List ℕ → Phase × Option (Segment Message)
-gather g b wire = cond (ltb (length g) size) (inside false (g ++ (b ∷ [])), none) (hunting, some (refused 5 wire))
+gather g b wire = cond (ltb (length g) size) (inside false (g ++ (b ∷ [])), none) (hunting, some (refusedFrame 5 wire))
 
 -- a wire byte of an open frame by its meaning, with the wire bytes before it and with it: 4 at a new start, which opens the next frame; 7 where it is
 -- wrongly coded
 abbrev pub act : List ℕ → List ℕ → List ℕ → Meaning → Phase × Option (Segment Message)
 act g before wire (byte b) = gather g b wire
 act g before wire waits = (inside true g, none)
-act g before wire start = (inside false [], some (refused 4 before))
+act g before wire start = (inside false [], some (refusedFrame 4 before))
 act g before wire end = (hunting, some (judge g wire))
-act g before wire wrong = (hunting, some (refused 7 wire))
+act g before wire wrong = (hunting, some (refusedFrame 7 wire))
 
 -- hunting looks for FD
-abbrev pub cut : Phase → ℕ → Phase × Option (Segment Message)
-cut hunting b = cond (eqb b 0xFD) (inside false [], none) (hunting, some (noise (b ∷ [])))
-cut (inside w g) b = act g (held (inside w g)) (held (inside w g) ++ (b ∷ [])) (meaning Escape.expansion w b)
+abbrev pub onByte : Phase → ℕ → Phase × Option (Segment Message)
+onByte hunting b = cond (eqb b 0xFD) (inside false [], none) (hunting, some (noise (b ∷ [])))
+onByte (inside w g) b = act g (held (inside w g)) (held (inside w g) ++ (b ∷ [])) (meaning Escape.expansion w b)

@@ -16,13 +16,13 @@ ghost use Rattle.framing.specs.Answer.{outcomeOf, storedAt};
 ghost use Rattle.framing.specs.Writer.{writes};
 ghost use Rattle.framing.specs.Receiver.{feed};
 ghost use Rattle.framing.specs.Segment.{eventOf};
-ghost use Rattle.framing.specs.Link.{isEvent, told, stepOn, answered, answer};
+ghost use Rattle.framing.specs.Link.{isEvent, told, stepOn, reported, receives};
 ghost use Rattle.escape.specs.Code.{meaningOf, meaning};
 ghost use Rattle.escape.specs.Expansion as Escape;
 ghost use Rattle.expansion.specs.Frame.{kindOk, ok, enclose, frame};
-ghost use Rattle.expansion.specs.Rules.{hunting, size, checkRight, judge, gather, act, cut};
-ghost use Rattle.expansion.specs.Contract.{phaseOf, dataOf, link, toldOf, answerOf};
-ghost use Rattle.expansion.specs.Steps.{Answers, Room, Passes};
+ghost use Rattle.expansion.specs.Rules.{hunting, size, checkRight, judge, gather, act, onByte};
+ghost use Rattle.expansion.specs.Contract.{phaseOf, dataOf, link, toldOf, receivedOf};
+ghost use Rattle.expansion.specs.Steps.{ByRules, Room, Passes};
 
 // The least store of a receiver: a header of 4 bytes, at most 1,024 of data, a CRC of 4.
 const SIZE: usize = 1032;
@@ -149,7 +149,7 @@ pub fn write(id: u8, kind: u8, repeat: u8, address: u8, data: &[u8], out: &mut [
 // Hunting: an FD opens a frame, any other byte is noise.
 fn hunt(state: State, byte: u8) -> Stepped
     requires { ⌜ state .mode ≡ 0 ⌝ }
-    ensures { λ r. ⌜ ((store : List ℕ) → Answers state store (cut hunting byte) r store) ⌝ }
+    ensures { λ r. ⌜ ((store : List ℕ) → ByRules state store (onByte hunting byte) r store) ⌝ }
 {
     if byte == 0xFD {
         Stepped {
@@ -167,7 +167,7 @@ fn hunt(state: State, byte: u8) -> Stepped
 // One more byte is gathered, unless the link's size is reached.
 fn gather_byte(state: State, store: &mut [u8], byte: u8) -> Stepped
     requires { ⌜ (state .mode ≡ 0 → ⊥) × Room state (now store) ⌝ }
-    ensures { λ r. ⌜ ((wire : List ℕ) → Answers state (now (store .entry)) (gather (take (state .count) (now (store .entry))) byte wire) r (now (store .exit))) ⌝ }
+    ensures { λ r. ⌜ ((wire : List ℕ) → ByRules state (now (store .entry)) (gather (take (state .count) (now (store .entry))) byte wire) r (now (store .exit))) ⌝ }
 {
     let at = state.count;
     if at < SIZE {
@@ -234,7 +234,7 @@ fn meaning_in(mode: usize, byte: u8) -> Meaning
 // A byte of an open frame, by its meaning.
 fn act_on(state: State, store: &mut [u8], meaning: Meaning) -> Stepped
     requires { ⌜ (state .mode ≡ 0 → ⊥) × Room state (now store) ⌝ }
-    ensures { λ r. ⌜ ((before wire : List ℕ) → Answers state (now (store .entry)) (act (take (state .count) (now (store .entry))) before wire (meaningOf meaning)) r (now (store .exit))) ⌝ }
+    ensures { λ r. ⌜ ((before wire : List ℕ) → ByRules state (now (store .entry)) (act (take (state .count) (now (store .entry))) before wire (meaningOf meaning)) r (now (store .exit))) ⌝ }
 {
     match meaning {
         Meaning::Byte(byte) => gather_byte(state, store, byte),
@@ -260,7 +260,7 @@ fn act_on(state: State, store: &mut [u8], meaning: Meaning) -> Stepped
 // One byte, in any mode.
 fn step(state: State, store: &mut [u8], byte: u8) -> Stepped
     requires { ⌜ Room state (now store) ⌝ }
-    ensures { λ r. ⌜ Answers state (now (store .entry)) (cut (phaseOf state (now (store .entry))) byte) r (now (store .exit)) ⌝ }
+    ensures { λ r. ⌜ ByRules state (now (store .entry)) (onByte (phaseOf state (now (store .entry))) byte) r (now (store .exit)) ⌝ }
 {
     let mode = state.mode;
     if mode == 0 {
@@ -315,7 +315,7 @@ fn advance(state: State, store: &mut [u8], piece: &[u8], from: usize) -> Reached
 // The bytes of a piece, until one makes an event.
 fn scan(state: State, store: &mut [u8], piece: &[u8]) -> Received
     requires { ⌜ Room state (now store) ⌝ }
-    ensures { λ r. ⌜ answerOf r (now (store .exit)) ≡ answered link (feed (stepOn link) (state, now (store .entry)) (now (piece .entry))) ⌝ }
+    ensures { λ r. ⌜ receivedOf r (now (store .exit)) ≡ reported link (feed (stepOn link) (state, now (store .entry)) (now (piece .entry))) ⌝ }
 {
     let mut current = state;
     let mut i = 0;
@@ -347,7 +347,7 @@ fn scan(state: State, store: &mut [u8], piece: &[u8]) -> Received
 
 // A call of the receiver: uses the bytes of the piece until one makes an event, that one included.
 pub fn receive(state: State, store: &mut [u8], piece: &[u8]) -> Received
-    ensures { λ r. ⌜ answerOf r (now (store .exit)) ≡ answer link (state, now (store .entry)) (now (piece .entry)) ⌝ }
+    ensures { λ r. ⌜ receivedOf r (now (store .exit)) ≡ receives link (state, now (store .entry)) (now (piece .entry)) ⌝ }
 {
     if framing::is_known(state, 3, 1, SIZE) {
         if SIZE <= store.len() {

@@ -48,11 +48,11 @@ known-count modes hunting size s h =
     (λ _ e. let z = eqb-true (s .count) 0 e in omega arith) (λ _ e. leb-true (s .count) size e) (and-both (ltb (s .mode) modes) _ h .1)
 
 -- the count stays within the size, where no byte makes a phase gather more, and a state's phase has gathered no more than its count
-module _ {P M : Type 0} (modeOf : P → ℕ) (gathered held : P → List ℕ) (phaseOf : State → List ℕ → P) (cut : P → ℕ → P × Option (Segment M)) (size : ℕ)
+module _ {P M : Type 0} (modeOf : P → ℕ) (gathered held : P → List ℕ) (phaseOf : State → List ℕ → P) (onByte : P → ℕ → P × Option (Segment M)) (size : ℕ)
     (within : (s : State) (store : List ℕ) → length (gathered (phaseOf s store)) ≤ s .count)
-    (next : (p : P) (b : ℕ) → length (gathered p) ≤ size → length (gathered (cut p b .0)) ≤ size) where
+    (next : (p : P) (b : ℕ) → length (gathered p) ≤ size → length (gathered (onByte p b .0)) ≤ size) where
   pub count-within : (s after : State) (store : List ℕ) (b : ℕ) → s .count ≤ size
-      → after ≡ stateAfter modeOf gathered held s (cut (phaseOf s store) b .0) (cut (phaseOf s store) b .1) → after .count ≤ size
+      → after ≡ stateAfter modeOf gathered held s (onByte (phaseOf s store) b .0) (onByte (phaseOf s store) b .1) → after .count ≤ size
   count-within s after store b h e = rw e (next (phaseOf s store) b (omega (arith, within s store)))
 
 -- a count that goes round is the same, whether what is added goes round first or not

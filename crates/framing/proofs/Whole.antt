@@ -13,7 +13,7 @@ use Rattle.runs.specs.Runs.{Bytes}
 use Rattle.runs.proofs.Cases.{by-test, by-leb, and-both}
 use Rattle.framing.specs.Answer.{done}
 use Rattle.framing.specs.Receiver.{Fed, feed, last}
-use Rattle.framing.specs.Segment.{Segment, noise, refused, accepted, Event, message, refusal, Config, step, wires, heard, noiseOf}
+use Rattle.framing.specs.Segment.{Segment, noise, refusedFrame, acceptedFrame, Event, message, refusal, Config, step, wires, heard, noiseOf}
 use Rattle.framing.specs.Link.{Link, Lent, told, heardIn}
 use Rattle.framing.specs.Claims.{segments, openAt}
 use Rattle.framing.specs.Whole.{settle, exactly, readOn, OnlyFrames, FramesRead}
@@ -35,8 +35,8 @@ module _ {M : Type 0} (frame : M → List ℕ) where
   silent (noise bs ∷ ss) h n =
       let e : bs ≡ [] = none-left bs (omega arith) in
       rw e (silent ss h (omega arith))
-  silent (refused k bs ∷ ss) h n = differ (cc)
-  silent (accepted m ∷ ss) h n = differ (cc)
+  silent (refusedFrame k bs ∷ ss) h n = differ (cc)
+  silent (acceptedFrame m ∷ ss) h n = differ (cc)
 
   -- one message was heard and nothing is noise: the bytes are its frame
   alone : (P : M → Type 0) (ss : List (Segment M)) (m : M) → heard ss ≡ message m ∷ [] → noiseOf ss ≡ 0 → AllAccept P ss
@@ -45,8 +45,8 @@ module _ {M : Type 0} (frame : M → List ℕ) where
   alone P (noise bs ∷ ss) m h n a =
       let e : bs ≡ [] = none-left bs (omega arith) in
       rw e (alone P ss m h (omega arith) (a .1))
-  alone P (refused k bs ∷ ss) m h n a = differ (cc)
-  alone P (accepted k ∷ ss) m h n a =
+  alone P (refusedFrame k bs ∷ ss) m h n a = differ (cc)
+  alone P (acceptedFrame k ∷ ss) m h n a =
       let e : k ≡ m = cc in
       let s : heard ss ≡ [] = cc in
       (subst P e (a .0), rw (silent ss s n, e) (append-nil (frame m)))
@@ -54,25 +54,25 @@ module _ {M : Type 0} (frame : M → List ℕ) where
   noise-within : (ss : List (Segment M)) → noiseOf ss ≤ length (wires frame ss)
   noise-within [] = omega arith
   noise-within (noise bs ∷ ss) = let h = noise-within ss in simp length-append (omega arith)
-  noise-within (refused n bs ∷ ss) = let h = noise-within ss in simp length-append (omega arith)
-  noise-within (accepted m ∷ ss) = let h = noise-within ss in simp length-append (omega arith)
+  noise-within (refusedFrame n bs ∷ ss) = let h = noise-within ss in simp length-append (omega arith)
+  noise-within (acceptedFrame m ∷ ss) = let h = noise-within ss in simp length-append (omega arith)
 
 module _ (L : Link) (laws : Lawful L) where
   abbrev rules : List ℕ → Fed (Event (L .Message)) (Config (L .Phase))
-  rules bs = feed (step (L .cut)) (at (L .hunting) 0) bs
+  rules bs = feed (step (L .onByte)) (at (L .hunting) 0) bs
 
   -- a call that used the whole run, with no noise, and gave a message
   module _ (bs : List ℕ) (m : L .Message) (y : Bytes bs) (event : rules bs .event ≡ some (message m)) (used : rules bs .used ≡ length bs)
       (quiet : rules bs .after .noise ≡ 0) (short : length bs < 2 ^ 32) where
     one : heard (segments L bs) ≡ message m ∷ []
-    one = sym (heard-events (L .cut) (at (L .hunting) 0) bs) ∙ events-feed (step (L .cut)) (at (L .hunting) 0) bs ∙ rw (event, used, drop-length bs)
+    one = sym (heard-events (L .onByte) (at (L .hunting) 0) bs) ∙ events-feed (step (L .onByte)) (at (L .hunting) 0) bs ∙ rw (event, used, drop-length bs)
 
-    ends : last (step (L .cut)) (at (L .hunting) 0) bs ≡ rules bs .after
-    ends = last-feed (step (L .cut)) (at (L .hunting) 0) bs ∙ rw (used, drop-length bs)
+    ends : last (step (L .onByte)) (at (L .hunting) 0) bs ≡ rules bs .after
+    ends = last-feed (step (L .onByte)) (at (L .hunting) 0) bs ∙ rw (used, drop-length bs)
 
     no-noise : noiseOf (segments L bs) ≡ 0
     no-noise =
-        let rounds = noise-last (L .cut) (at (L .hunting) 0) bs (omega arith) in
+        let rounds = noise-last (L .onByte) (at (L .hunting) 0) bs (omega arith) in
         let within = noise-within (L .frame) (segments L bs) in
         let clear = ap (λ (c : Config (L .Phase)). c .noise) ends ∙ quiet in
         let all = ap length (accounted L laws bs y) in
@@ -81,7 +81,7 @@ module _ (L : Link) (laws : Lawful L) where
     exact : (L .ok m ≡ true) × (bs ≡ L .frame m)
     exact =
         let p = alone (L .frame) (λ m. L .ok m ≡ true) (segments L bs) m one no-noise (all-sendable L laws bs y) in
-        let closed : openAt L bs ≡ [] = ap (L .held) (sym (phase-last (L .cut) (at (L .hunting) 0) bs) ∙ ap (λ (c : Config (L .Phase)). c .phase) ends) ∙ last-closed L laws bs m y event in
+        let closed : openAt L bs ≡ [] = ap (L .held) (sym (phase-last (L .onByte) (at (L .hunting) 0) bs) ∙ ap (λ (c : Config (L .Phase)). c .phase) ends) ∙ last-closed L laws bs m y event in
         (p .0, sym (accounted L laws bs y) ∙ rw (p .1, closed) (append-nil (L .frame m)))
 
   -- the store that was lent does not matter

@@ -9,7 +9,7 @@ use lib.ListN.{length, take}
 use Rattle.runs.specs.Runs.{Bytes, over, Begins}
 use Rattle.framing.specs.Answer.{done}
 use Rattle.framing.specs.Receiver.{Fed, events, last, drive, join}
-use Rattle.framing.specs.Segment.{Segment, accepted, Event, message, heard, noiseOf, wires}
+use Rattle.framing.specs.Segment.{Segment, acceptedFrame, Event, message, heard, noiseOf, wires}
 use Rattle.framing.specs.Writer.{Call, kept, wire}
 use Rattle.framing.specs.Link.{Link, writeOn, called}
 
@@ -21,10 +21,10 @@ AllOf P (x ∷ xs) = P x × AllOf P xs
 module _ (L : Link) where
   -- the segments of a stream by the rules, and what is open at its end
   abbrev pub segments : List ℕ → List (Segment (L .Message))
-  segments bs = events (L .cut) (L .hunting) bs
+  segments bs = events (L .onByte) (L .hunting) bs
 
   abbrev pub openAt : List ℕ → List ℕ
-  openAt bs = L .held (last (L .cut) (L .hunting) bs)
+  openAt bs = L .held (last (L .onByte) (L .hunting) bs)
 
   -- writes the frame: in memory that holds it, a message that may be sent leaves exactly its frame at the start, and nothing after it is changed
   abbrev pub WritesFrame : Type 0
@@ -69,7 +69,7 @@ module _ (L : Link) where
   -- canonical: a message is accepted only where the stream holds exactly its frame, and only one that may be sent
   abbrev pub Canonical : Type 0
   Canonical =
-      (bs : List ℕ) → Bytes bs → (before after : List (Segment (L .Message))) (m : L .Message) → segments bs ≡ before ++ (accepted m ∷ after)
+      (bs : List ℕ) → Bytes bs → (before after : List (Segment (L .Message))) (m : L .Message) → segments bs ≡ before ++ (acceptedFrame m ∷ after)
       → (L .ok m ≡ true) × (bs ≡ wires (L .frame) before ++ L .frame m ++ wires (L .frame) after ++ openAt bs)
 
   -- cut anywhere: a fresh receiver, its store handed back untouched, hands out the events, the noise and the open count of the uncut stream,

@@ -25,7 +25,7 @@ use Rattle.mdu.proofs.Known.{length-most}
 use Rattle.dle.specs.declared.Message as DleNumbers
 use Rattle.dle.specs.Frame as DleFrame
 use Rattle.dle.specs.Contract as Dle
-use Rattle.dle.proofs.Payload.{ok-length}
+use Rattle.dle.proofs.Body.{ok-length}
 use Rattle.expansion.specs.declared.Message as ExpansionNumbers
 use Rattle.expansion.specs.Frame as ExpansionFrame
 use Rattle.expansion.specs.Contract as Expansion
@@ -93,14 +93,14 @@ dleFields v = v .sequence ∷ v .node ∷ v .error ∷ []
 abbrev dleKind : DleNumbers.Message → ℕ
 dleKind v = cond (eqb (v .length) 0) 1 0
 
-dle-payload : (m : DleFrame.Message) → Bytes (DleFrame.frame m) → Bytes (DleFrame.payload m)
-dle-payload m y =
-    doubled-bytes (DleFrame.payload m) (bytes-left (hide Doubled.dle (DleFrame.payload m)) (0x10 ∷ 0x03 ∷ []) (λ i. y (suc (suc i))))
+dle-body : (m : DleFrame.Message) → Bytes (DleFrame.frame m) → Bytes (DleFrame.body m)
+dle-body m y =
+    doubled-bytes (DleFrame.body m) (bytes-left (hide Doubled.dle (DleFrame.body m)) (0x10 ∷ 0x03 ∷ []) (λ i. y (suc (suc i))))
 
 pub dle-packs : (m : DleFrame.Message) → DleFrame.ok m ≡ true → Bytes (DleFrame.frame m)
     → Packs dleCode (λ v. v .length) dleKind dleFields (Dle.numbersOf m)
 dle-packs (DleFrame.content s n d) h y =
-    let p = dle-payload (DleFrame.content s n d) y in
+    let p = dle-body (DleFrame.content s n d) y in
     let l = ok-length (length d) h in
     let z = ne-eqb (length d) 0 (λ e. omega (arith, l .0)) in
     record {
@@ -110,7 +110,7 @@ dle-packs (DleFrame.content s n d) h y =
       fields-fit = bytes-append (s ∷ n ∷ []) (0 ∷ []) (bytes-two s n (p 0) (p 1)) (bytes-one 0 (lit< tt));
     }
 dle-packs (DleFrame.error s n e) h y =
-    let p = dle-payload (DleFrame.error s n e) y in
+    let p = dle-body (DleFrame.error s n e) y in
     record {
       number = refl;
       size-fits = lit< tt;

@@ -12,7 +12,7 @@ use borrow.Author.Tests.{leb-true}
 use Rattle.runs.proofs.Cases.{and-both}
 use Rattle.framing.specs.Answer.{Outcome, done, refused}
 use Rattle.framing.specs.Receiver.{Fed, stop, feed}
-use Rattle.framing.specs.Segment.{Segment, noise, refused as refusedFrame, accepted, Event, message, refusal, eventOf}
+use Rattle.framing.specs.Segment.{Segment, noise, refusedFrame, acceptedFrame, Event, message, refusal, eventOf}
 use Rattle.framing.specs.Link.{Link, Lent, stepOn, callOn, told}
 use Rattle.framing.specs.Whole.{settle, exactly, readOn}
 use Rattle.escape.specs.Code.{Meaning, byte, waits, start, end, wrong, meaning}
@@ -39,7 +39,7 @@ abbrev Closes : {M : Type 0} → Option (Segment M) → Type 0
 Closes none = Unit
 Closes (some (noise bs)) = Unit
 Closes (some (refusedFrame n bs)) = fits n ≡ true
-Closes (some (accepted m)) = Unit
+Closes (some (acceptedFrame m)) = Unit
 
 abbrev Hears : {M : Type 0} → Option (Event M) → Type 0
 Hears none = Unit
@@ -50,7 +50,7 @@ hears-event : {M : Type 0} (o : Option (Segment M)) → Closes o → Hears (even
 hears-event none h = tt
 hears-event (some (noise bs)) h = tt
 hears-event (some (refusedFrame n bs)) h = h
-hears-event (some (accepted m)) h = tt
+hears-event (some (acceptedFrame m)) h = tt
 
 either : {A : Type 0} (P : A → Type 0) (t : Bool) {x y : A} → P x → P y → P (cond t x y)
 either P true h k = h
@@ -60,12 +60,12 @@ hears-stop : {C M : Type 0} (c : C) (o : Option (Event M)) (f : Fed (Event M) C)
 hears-stop c none f h k = k
 hears-stop c (some e) f h k = h
 
-module _ (L : Link) (closes : (p : L .Phase) (b : ℕ) → Closes (L .cut p b .1)) where
+module _ (L : Link) (closes : (p : L .Phase) (b : ℕ) → Closes (L .onByte p b .1)) where
   hears-feed : (c : Lent L) (bs : List ℕ) → Hears (feed (stepOn L) c bs .event)
   hears-feed c [] = tt
   hears-feed c (b ∷ bs) =
       hears-stop (stepOn L c b .0) (stepOn L c b .1) (feed (stepOn L) (stepOn L c b .0) bs)
-      (hears-event (L .cut (L .phaseOf (c .0) (c .1)) b .1) (closes (L .phaseOf (c .0) (c .1)) b)) (hears-feed (stepOn L c b .0) bs)
+      (hears-event (L .onByte (L .phaseOf (c .0) (c .1)) b .1) (closes (L .phaseOf (c .0) (c .1)) b)) (hears-feed (stepOn L c b .0) bs)
 
   hears-call : (c : Lent L) (bs : List ℕ) → Hears (callOn L c bs .event)
   hears-call c bs =
@@ -121,7 +121,7 @@ pcs-judged g wire =
     (either Judged (Pcs.sumRight g)
     (either Judged (Pcs.fieldsOk g) (either Judged (eqb (Pcs.stated g) (length g - 9)) (pcs-unpacked g wire (unpacked (Pcs.packedPart g))) refl) refl) refl))
 
-pub pcs-closes : (p : Pcs.Phase) (b : ℕ) → Closes (Pcs.cut p b .1)
+pub pcs-closes : (p : Pcs.Phase) (b : ℕ) → Closes (Pcs.onByte p b .1)
 pcs-closes Pcs.hunting b = either Cut (eqb b 253) tt tt
 pcs-closes (Pcs.inside g) b =
     either Cut (eqb b 253) refl (either Cut (eqb b 254) (pcs-judged g (253 ∷ g ++ (b ∷ []))) (either Cut (ltb (length g) Pcs.size) tt refl))
@@ -131,10 +131,10 @@ mdu-entered g =
     either Cut (eqb (getD g 1 0) 0x01 && not (eqb (getD g 4 0) 0))
     (either Cut (eqb (getD g 5 0) (headerSum g)) (either Cut (lengthOk (Mdu.stated g)) tt refl) refl) refl
 
-pub mdu-closes : (p : Mdu.Phase) (b : ℕ) → Closes (Mdu.cut p b .1)
+pub mdu-closes : (p : Mdu.Phase) (b : ℕ) → Closes (Mdu.onByte p b .1)
 mdu-closes Mdu.hunting b = either Cut (eqb b 0xE3) tt tt
-mdu-closes (Mdu.head g) b = either Cut (eqb (length g) 5) (mdu-entered (g ++ (b ∷ []))) tt
-mdu-closes (Mdu.tail k g) b =
+mdu-closes (Mdu.inHeader g) b = either Cut (eqb (length g) 5) (mdu-entered (g ++ (b ∷ []))) tt
+mdu-closes (Mdu.inBody k g) b =
     either Cut (eqb (length g) (7 + k))
     (either Judged (eqb (Mdu.sentCheck k (g ++ (b ∷ []))) (crc16Of (take k (drop 6 (g ++ (b ∷ [])))))) tt refl) tt
 
@@ -150,7 +150,7 @@ dle-acts g wire start = refl
 dle-acts g wire end = dle-judged g wire
 dle-acts g wire wrong = refl
 
-pub dle-closes : (p : Dle.Phase) (b : ℕ) → Closes (Dle.cut p b .1)
+pub dle-closes : (p : Dle.Phase) (b : ℕ) → Closes (Dle.onByte p b .1)
 dle-closes Dle.hunting b = either Cut (eqb b 0x10) tt tt
 dle-closes Dle.half b = either Cut (eqb b 0x02) tt tt
 dle-closes (Dle.inside w g) b = dle-acts g (Dle.held (Dle.inside w g) ++ (b ∷ [])) (meaning dle w b)
@@ -166,7 +166,7 @@ expansion-acts g before wire start = refl
 expansion-acts g before wire end = expansion-judged g wire
 expansion-acts g before wire wrong = refl
 
-pub expansion-closes : (p : Expansion.Phase) (b : ℕ) → Closes (Expansion.cut p b .1)
+pub expansion-closes : (p : Expansion.Phase) (b : ℕ) → Closes (Expansion.onByte p b .1)
 expansion-closes Expansion.hunting b = either Cut (eqb b 0xFD) tt tt
 expansion-closes (Expansion.inside w g) b =
     expansion-acts g (Expansion.held (Expansion.inside w g)) (Expansion.held (Expansion.inside w g) ++ (b ∷ [])) (meaning Escape.expansion w b)

@@ -9,7 +9,7 @@ use lib.Seq.{drop-cons}
 use Rattle.runs.specs.Runs.{Bytes}
 use Rattle.framing.proofs.Byte.{Reached}
 use Rattle.mdu.specs.Frame.{lengthOk, headerSum, header}
-use Rattle.mdu.specs.Rules.{Phase, hunting, head, tail, size, gathered, stated}
+use Rattle.mdu.specs.Rules.{Phase, hunting, inHeader, inBody, size, gathered, stated}
 use Rattle.mdu.specs.Contract.{link}
 use Rattle.mdu.proofs.Known.{Sized, length-most}
 
@@ -25,21 +25,21 @@ pub record Entered (k : ℕ) (g : List ℕ) : Type 0 where
 
 abbrev pub Good : Phase → Type 0
 Good hunting = Unit
-Good (head g) = Bytes g × (1 ≤ length g) × (length g ≤ 5) × (getD g 0 0 ≡ 0xE3)
-Good (tail k g) = Entered k g
+Good (inHeader g) = Bytes g × (1 ≤ length g) × (length g ≤ 5) × (getD g 0 0 ≡ 0xE3)
+Good (inBody k g) = Entered k g
 
 pub good-sized : (p : Phase) → Good p → Sized p
 good-sized hunting g = tt
-good-sized (head x) g = (g .1, omega (arith, g .2))
-good-sized (tail k x) g =
+good-sized (inHeader x) g = (g .1, omega (arith, g .2))
+good-sized (inBody k x) g =
     let e : length x ≡ 6 + length (g .rest) = ap length (g .whole) ∙ omega arith in
     record { allowed = g .allowed; low = omega arith; high = omega (arith, g .short); most = length-most k (g .allowed) }
 
 -- fewer bytes than the store holds, with room for one more
 pub good-small : (p : Phase) → Good p → length (gathered p) < size
 good-small hunting g = omega arith
-good-small (head x) g = omega (arith, g .2)
-good-small (tail k x) g = let s = good-sized (tail k x) g in omega (arith, s .high, s .most)
+good-small (inHeader x) g = omega (arith, g .2)
+good-small (inBody k x) g = let s = good-sized (inBody k x) g in omega (arith, s .high, s .most)
 
 abbrev pub reached : Reached link
 reached =

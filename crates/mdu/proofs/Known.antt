@@ -15,7 +15,7 @@ use Rattle.framing.specs.Segment.{Segment, noiseAfter}
 use Rattle.framing.specs.State.{openAfter}
 use Rattle.framing.specs.State as Shared
 use Rattle.mdu.specs.Frame.{Message, lengthOk, headerSum}
-use Rattle.mdu.specs.Rules.{Phase, hunting, head, tail, size, gathered, held, stated, enter, cut}
+use Rattle.mdu.specs.Rules.{Phase, hunting, inHeader, inBody, size, gathered, held, stated, enter, onByte}
 use Rattle.mdu.specs.Contract.{knownState, modeOf, lengthOf, phaseOf, stateAfter}
 use Rattle.mdu.specs.Steps.{ToCome}
 use Rattle.mdu.specs.declared.State.{State}
@@ -23,8 +23,8 @@ use Rattle.mdu.specs.declared.State.{State}
 -- how many bytes each phase has gathered
 abbrev pub Sized : Phase → Type 0
 Sized hunting = Unit
-Sized (head g) = (1 ≤ length g) × (length g < 6)
-Sized (tail k g) = ToCome k (length g)
+Sized (inHeader g) = (1 ≤ length g) × (length g < 6)
+Sized (inBody k g) = ToCome k (length g)
 
 pub length-most : (k : ℕ) → lengthOk k ≡ true → k ≤ 1025
 length-most k h = leb-true k 1025 (and-both (leb 1 k) (leb k 1025) h .1)
@@ -40,8 +40,8 @@ body-known at o n k h = rw (le-leb at size (omega arith), le-ltb at 6 (h .low), 
 pub sized-known : (p : Phase) (o n : ℕ) → Sized p
     → knownState (record { base = record { mode = modeOf p; count = length (gathered p); «open» = o; noise = n }; length = lengthOf p }) ≡ true
 sized-known hunting o n h = refl
-sized-known (head g) o n h = rw (le-leb (length g) size (omega arith), lt-ltb (length g) 6 (h .1), le-leb 1 (length g) (h .0))
-sized-known (tail k g) o n h = body-known (length g) o n k h
+sized-known (inHeader g) o n h = rw (le-leb (length g) size (omega arith), lt-ltb (length g) 6 (h .1), le-leb 1 (length g) (h .0))
+sized-known (inBody k g) o n h = body-known (length g) o n k h
 
 enter-sized : (g : List ℕ) → length g ≡ 6 → Sized (enter g .0)
 enter-sized g l =
@@ -54,13 +54,13 @@ enter-sized g l =
     P : Phase × Option (Segment Message) → Type 0
     P r = Sized (r .0)
 
-pub sized-next : (p : Phase) (b : ℕ) → Sized p → Sized (cut p b .0)
+pub sized-next : (p : Phase) (b : ℕ) → Sized p → Sized (onByte p b .0)
 sized-next hunting b h = by-eqb (λ (r : Phase × Option (Segment Message)). Sized (r .0)) b 0xE3 (λ _. (omega arith, omega arith)) (λ _. tt)
-sized-next (head g) b h =
+sized-next (inHeader g) b h =
     by-eqb (λ (r : Phase × Option (Segment Message)). Sized (r .0)) (length g) 5
     (λ e. enter-sized (g ++ (b ∷ [])) (simp length-append (omega arith)))
     (λ n. (simp length-append (omega arith), simp length-append (omega arith)))
-sized-next (tail k g) b h =
+sized-next (inBody k g) b h =
     by-eqb (λ (r : Phase × Option (Segment Message)). Sized (r .0)) (length g) (7 + k) (λ _. tt)
     (λ n. record {
       allowed = h .allowed;
@@ -108,8 +108,8 @@ known-sized s store h room =
 
 -- a known state stays known after any byte
 pub known-next : (s : State) (store : List ℕ) (b : ℕ) → knownState s ≡ true → size ≤ length store
-    → knownState (stateAfter s (cut (phaseOf s store) b .0) (cut (phaseOf s store) b .1)) ≡ true
+    → knownState (stateAfter s (onByte (phaseOf s store) b .0) (onByte (phaseOf s store) b .1)) ≡ true
 known-next s store b h room =
     let p = phaseOf s store in
-    sized-known (cut p b .0) (openAfter (cut p b .1) (s .base) (length (held (cut p b .0)))) (noiseAfter (cut p b .1) (s .base .noise))
+    sized-known (onByte p b .0) (openAfter (onByte p b .1) (s .base) (length (held (onByte p b .0)))) (noiseAfter (onByte p b .1) (s .base .noise))
     (sized-next p b (known-sized s store h room))

@@ -1,7 +1,7 @@
--- `Entered`, `Cut`, `Readback` and `Known` have the laws of the rules, `Lawful` gathers them, `Theorems` has what is claimed. `Store`, `Steps`,
+-- `Entered`, `OnByte`, `Readback` and `Known` have the laws of the rules, `Lawful` gathers them, `Theorems` has what is claimed. `Store`, `Steps`,
 -- `Body` and `Written` are for the code.
 pub mod Entered
-pub mod Cut
+pub mod OnByte
 pub mod Readback
 pub mod Known
 pub mod Lawful

@@ -5,7 +5,7 @@ use mathlib.Core.List.{List, [], _∷_, _++_}
 use mathlib.Core.Option.{Option, none, some}
 use lib.ListN.{length, getD, take, drop}
 use lib.Dec.{eqb}
-use Rattle.framing.specs.Segment.{Segment, noise, refused, accepted}
+use Rattle.framing.specs.Segment.{Segment, noise, refusedFrame, acceptedFrame}
 use Rattle.checksum.specs.Crc.{crc16Of}
 use Rattle.mdu.specs.Frame.{Message, lengthOk, headerSum}
 
@@ -16,13 +16,13 @@ size = 1033
 -- hunting; fewer than six bytes gathered; six or more, with the stated length
 pub data Phase : Type 0 where
   hunting : Phase
-  head : List ℕ → Phase
-  tail : ℕ → List ℕ → Phase
+  inHeader : List ℕ → Phase
+  inBody : ℕ → List ℕ → Phase
 
 abbrev pub gathered : Phase → List ℕ
 gathered hunting = []
-gathered (head g) = g
-gathered (tail k g) = g
+gathered (inHeader g) = g
+gathered (inBody k g) = g
 
 -- the wire bytes that belong to no segment yet: the whole frame is gathered, so those gathered
 abbrev pub held : Phase → List ℕ
@@ -39,16 +39,16 @@ sentCheck k g = getD g (6 + k) 0 * 256 + getD g (7 + k) 0
 abbrev pub enter : List ℕ → Phase × Option (Segment Message)
 enter g =
     cond (eqb (getD g 1 0) 0x01 && not (eqb (getD g 4 0) 0))
-    (cond (eqb (getD g 5 0) (headerSum g)) (cond (lengthOk (stated g)) (tail (stated g) g, none) (hunting, some (refused 10 g))) (hunting, some (refused 8 g)))
-    (hunting, some (refused 9 g))
+    (cond (eqb (getD g 5 0) (headerSum g)) (cond (lengthOk (stated g)) (inBody (stated g) g, none) (hunting, some (refusedFrame 10 g))) (hunting, some (refusedFrame 8 g)))
+    (hunting, some (refusedFrame 9 g))
 
 -- the last byte of a body of k: 8 where the check value differs
 abbrev pub finish : ℕ → List ℕ → Segment Message
 finish k g =
-    cond (eqb (sentCheck k g) (crc16Of (take k (drop 6 g)))) (accepted (record { address = getD g 4 0; body = take k (drop 6 g) })) (refused 8 g)
+    cond (eqb (sentCheck k g) (crc16Of (take k (drop 6 g)))) (acceptedFrame (record { address = getD g 4 0; body = take k (drop 6 g) })) (refusedFrame 8 g)
 
 -- hunting looks for E3, which inside a frame is a byte like any other
-abbrev pub cut : Phase → ℕ → Phase × Option (Segment Message)
-cut hunting b = cond (eqb b 0xE3) (head (b ∷ []), none) (hunting, some (noise (b ∷ [])))
-cut (head g) b = cond (eqb (length g) 5) (enter (g ++ (b ∷ []))) (head (g ++ (b ∷ [])), none)
-cut (tail k g) b = cond (eqb (length g) (7 + k)) (hunting, some (finish k (g ++ (b ∷ [])))) (tail k (g ++ (b ∷ [])), none)
+abbrev pub onByte : Phase → ℕ → Phase × Option (Segment Message)
+onByte hunting b = cond (eqb b 0xE3) (inHeader (b ∷ []), none) (hunting, some (noise (b ∷ [])))
+onByte (inHeader g) b = cond (eqb (length g) 5) (enter (g ++ (b ∷ []))) (inHeader (g ++ (b ∷ [])), none)
+onByte (inBody k g) b = cond (eqb (length g) (7 + k)) (hunting, some (finish k (g ++ (b ∷ [])))) (inBody k (g ++ (b ∷ [])), none)

@@ -32,7 +32,7 @@ goneOn base count length =
     }
 
 -- what is answered of a byte by what the rules give: the phase after it, and the segment that it closes
-pub record Answers (s : State) (c : Phase × Option (Segment Frame.Message)) (r : Stepped) : Type 0 where
+pub record ByRules (s : State) (c : Phase × Option (Segment Frame.Message)) (r : Stepped) : Type 0 where
   pub tells : toldOf (r .event) ≡ told link (eventOf (c .1))
   pub state : r .state ≡ stateAfter s (c .0) (c .1)
 

@@ -16,10 +16,10 @@ ghost use lib.ListN.{length, take};
 ghost use Rattle.runs.specs.Runs.{over};
 ghost use Rattle.framing.specs.Receiver.{feed};
 ghost use Rattle.framing.specs.Segment.{eventOf};
-ghost use Rattle.framing.specs.Link.{isEvent, told, stepOn, answered};
-ghost use Rattle.mdu.specs.Rules.{hunting, head, tail, size, enter, finish, cut};
-ghost use Rattle.mdu.specs.Contract.{knownState, phaseOf, front, link, toldOf, answerOf};
-ghost use Rattle.mdu.specs.Steps.{endedWith, goneOn, Answers, Open, ToCome, AtLast, Passes};
+ghost use Rattle.framing.specs.Link.{isEvent, told, stepOn, reported};
+ghost use Rattle.mdu.specs.Rules.{hunting, inHeader, inBody, size, enter, finish, onByte};
+ghost use Rattle.mdu.specs.Contract.{knownState, phaseOf, front, link, toldOf, receivedOf};
+ghost use Rattle.mdu.specs.Steps.{endedWith, goneOn, ByRules, Open, ToCome, AtLast, Passes};
 
 // What a byte makes: an event or none, and the state after it.
 struct Stepped {
@@ -60,7 +60,7 @@ pub(crate) fn is_known(state: State) -> bool
 // Hunting: an E3 opens a frame, any other byte is noise.
 fn hunt(state: State, store: &mut [u8], byte: u8) -> Stepped
     requires { ⌜ (state .base .mode ≡ 0) × (size ≤ length (now store)) ⌝ }
-    ensures stepped { λ r. ⌜ Answers state (cut hunting byte) r ⌝ }
+    ensures stepped { λ r. ⌜ ByRules state (onByte hunting byte) r ⌝ }
     ensures stored { λ r. ⌜ now (store .exit) ≡ over (front hunting byte) (now (store .entry)) ⌝ }
 {
     if byte == 0xE3 {
@@ -119,7 +119,7 @@ fn joined(high: u8, low: u8) -> usize
 // Byte six: whether a body follows the header.
 fn enter_body(state: State, store: &[u8]) -> Stepped
     requires { ⌜ Open state (now store) ⌝ }
-    ensures { λ r. ⌜ Answers state (enter (take 6 (now (store .entry)))) r ⌝ }
+    ensures { λ r. ⌜ ByRules state (enter (take 6 (now (store .entry)))) r ⌝ }
 {
     let base = state.base;
     if store[1] != 0x01 {
@@ -142,8 +142,8 @@ fn enter_body(state: State, store: &[u8]) -> Stepped
 // An open frame below six bytes: the sixth ends the header.
 fn head_byte(state: State, store: &mut [u8], byte: u8) -> Stepped
     requires { ⌜ Open state (now store) × (state .base .count < 6) ⌝ }
-    ensures stepped { λ r. ⌜ Answers state (cut (head (take (state .base .count) (now (store .entry)))) byte) r ⌝ }
-    ensures stored { λ r. ⌜ now (store .exit) ≡ over (front (head (take (state .base .count) (now (store .entry)))) byte) (now (store .entry)) ⌝ }
+    ensures stepped { λ r. ⌜ ByRules state (onByte (inHeader (take (state .base .count) (now (store .entry)))) byte) r ⌝ }
+    ensures stored { λ r. ⌜ now (store .exit) ≡ over (front (inHeader (take (state .base .count) (now (store .entry)))) byte) (now (store .entry)) ⌝ }
 {
     let base = state.base;
     let at = base.count;
@@ -175,8 +175,8 @@ fn finish_frame(store: &[u8], stated: usize) -> Event
 // The last byte of a frame.
 fn last_byte(state: State, store: &mut [u8], byte: u8) -> Stepped
     requires { ⌜ Open state (now store) × ToCome (state .length) (state .base .count) × (state .base .count ≡ 7 + state .length) ⌝ }
-    ensures stepped { λ r. ⌜ Answers state (cut (tail (state .length) (take (state .base .count) (now (store .entry)))) byte) r ⌝ }
-    ensures stored { λ r. ⌜ now (store .exit) ≡ over (front (tail (state .length) (take (state .base .count) (now (store .entry)))) byte) (now (store .entry)) ⌝ }
+    ensures stepped { λ r. ⌜ ByRules state (onByte (inBody (state .length) (take (state .base .count) (now (store .entry)))) byte) r ⌝ }
+    ensures stored { λ r. ⌜ now (store .exit) ≡ over (front (inBody (state .length) (take (state .base .count) (now (store .entry)))) byte) (now (store .entry)) ⌝ }
 {
     let base = state.base;
     let at = base.count;
@@ -188,7 +188,7 @@ fn last_byte(state: State, store: &mut [u8], byte: u8) -> Stepped
 // One byte, in any mode; of a body and its check value only the last.
 fn step(state: State, store: &mut [u8], byte: u8) -> Stepped
     requires { ⌜ (knownState state ≡ true) × (size ≤ length (now store)) × AtLast state ⌝ }
-    ensures stepped { λ r. ⌜ Answers state (cut (phaseOf state (now (store .entry))) byte) r ⌝ }
+    ensures stepped { λ r. ⌜ ByRules state (onByte (phaseOf state (now (store .entry))) byte) r ⌝ }
     ensures stored { λ r. ⌜ now (store .exit) ≡ over (front (phaseOf state (now (store .entry))) byte) (now (store .entry)) ⌝ }
 {
     let base = state.base;
@@ -274,7 +274,7 @@ fn advance(state: State, store: &mut [u8], piece: &[u8], from: usize) -> Reached
 // The bytes of a piece, until one makes an event.
 pub(crate) fn scan(state: State, store: &mut [u8], piece: &[u8]) -> Received
     requires { ⌜ (knownState state ≡ true) × (size ≤ length (now store)) ⌝ }
-    ensures { λ r. ⌜ answerOf r (now (store .exit)) ≡ answered link (feed (stepOn link) (state, now (store .entry)) (now (piece .entry))) ⌝ }
+    ensures { λ r. ⌜ receivedOf r (now (store .exit)) ≡ reported link (feed (stepOn link) (state, now (store .entry)) (now (piece .entry))) ⌝ }
 {
     let mut current = state;
     let mut i = 0;

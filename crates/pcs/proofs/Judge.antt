@@ -12,7 +12,7 @@ use borrow.Author.Tests.{ltb-false}
 use Rattle.runs.specs.Runs.{over}
 use Rattle.runs.proofs.Run.{sets-over}
 use Rattle.framing.specs.Answer.{Outcome}
-use Rattle.framing.specs.Segment.{Segment, refused, eventOf}
+use Rattle.framing.specs.Segment.{Segment, refusedFrame, eventOf}
 use Rattle.framing.specs.Link.{told}
 use Rattle.packing.specs.Unpacked.{unpacked}
 use Rattle.packing.specs.Contract.{unpackedIn}
@@ -26,17 +26,17 @@ use Rattle.pcs.proofs.Store.{packed-at}
 
 -- what a fault, or none, says of the segment that is closed
 record Judged (g wire : List ℕ) (fault : ℕ) (s : Segment Frame.Message) : Type 0 where
-  fails : (fault ≡ 0 → ⊥) → s ≡ refused fault wire
+  fails : (fault ≡ 0 → ⊥) → s ≡ refusedFrame fault wire
   passes : fault ≡ 0 → s ≡ unpack g wire (unpacked (packedPart g))
 
 module _ (g wire : List ℕ) where
-  failed : (n : ℕ) → (n ≡ 0 → ⊥) → Judged g wire n (refused n wire)
+  failed : (n : ℕ) → (n ≡ 0 → ⊥) → Judged g wire n (refusedFrame n wire)
   failed n h = record { fails = λ _. refl; passes = λ e. absurd (h e) }
 
   cases : (a b c d e : Bool)
       → Judged g wire (cond a 6 (cond b 11 (cond c (cond d (cond e 0 10) 9) 8)))
-      (cond a (refused 6 wire) (cond b (refused 11 wire)
-      (cond c (cond d (cond e (unpack g wire (unpacked (packedPart g))) (refused 10 wire)) (refused 9 wire)) (refused 8 wire))))
+      (cond a (refusedFrame 6 wire) (cond b (refusedFrame 11 wire)
+      (cond c (cond d (cond e (unpack g wire (unpacked (packedPart g))) (refusedFrame 10 wire)) (refusedFrame 9 wire)) (refusedFrame 8 wire))))
   cases true b c d e = failed 6 (λ h. omega arith)
   cases false true c d e = failed 11 (λ h. omega arith)
   cases false false false d e = failed 8 (λ h. omega arith)
@@ -48,7 +48,7 @@ module _ (g wire : List ℕ) where
   unfolding faultOf
   judged = cases (ltb (length g) 9) (asksCrc g) (sumRight g) (fieldsOk g) (eqb (stated g) (length g - 9))
 
-  pub judge-fault : (faultOf g ≡ 0 → ⊥) → judge g wire ≡ refused (faultOf g) wire
+  pub judge-fault : (faultOf g ≡ 0 → ⊥) → judge g wire ≡ refusedFrame (faultOf g) wire
   judge-fault = judged .fails
 
   judge-unpacks : faultOf g ≡ 0 → judge g wire ≡ unpack g wire (unpacked (packedPart g))

@@ -5,13 +5,13 @@ use mathlib.Core.List.{List}
 use mathlib.Core.Option.{Option, none, some}
 use lib.ListN.{length, take}
 use lib.Dec.{eqb}
-use Rattle.framing.specs.Segment.{Segment, noise, refused, accepted}
+use Rattle.framing.specs.Segment.{Segment, noise, refusedFrame, acceptedFrame}
 use Rattle.framing.specs.State.{freshState, knownState, stateAfter}
-use Rattle.framing.specs.Link.{Link, Lent, Told, nothing, numbers, number, dataAt}
+use Rattle.framing.specs.Link.{Link, Lent, Told, nothing, accepted, refused, dataAt}
 use Rattle.framing.specs.declared.State.{State}
 use Rattle.pcs.specs.Frame.{Typed, ok, frame}
 use Rattle.pcs.specs.Frame as Frame
-use Rattle.pcs.specs.Rules.{Phase, hunting, inside, size, gathered, held, cut}
+use Rattle.pcs.specs.Rules.{Phase, hunting, inside, size, gathered, held, onByte}
 use Rattle.pcs.specs.declared.Message.{Message}
 use Rattle.pcs.specs.declared.Event.{Event}
 use Rattle.pcs.specs.declared.Event.the-variants.{Nothing, Accepted, Refused}
@@ -30,8 +30,8 @@ phaseOf s store = cond (eqb (s .mode) 0) hunting (inside (take (s .count) store)
 abbrev pub frontOf : Phase × Option (Segment Frame.Message) → List ℕ
 frontOf (p, none) = gathered p
 frontOf (p, some (noise bs)) = gathered p
-frontOf (p, some (refused n bs)) = gathered p
-frontOf (p, some (accepted m)) = m .payload
+frontOf (p, some (refusedFrame n bs)) = gathered p
+frontOf (p, some (acceptedFrame m)) = m .payload
 
 -- the numbers told of a message
 abbrev pub numbersOf : Frame.Message → Message
@@ -73,7 +73,7 @@ link =
       frame = frame;
       Phase = Phase;
       hunting = hunting;
-      cut = cut;
+      onByte = onByte;
       gathered = gathered;
       held = held;
       size = size;
@@ -84,7 +84,7 @@ link =
       «open» = λ s. s .«open»;
       phaseOf = phaseOf;
       stateAfter = stateAfter modeOf gathered held;
-      front = λ p b. frontOf (cut p b);
+      front = λ p b. frontOf (onByte p b);
       Numbers = Message;
       numbersOf = numbersOf;
       messageOf = messageOf;
@@ -93,9 +93,9 @@ link =
 -- each case of the receiver's answer
 abbrev pub toldOf : Event → Told Message
 toldOf Nothing = nothing
-toldOf (Accepted m) = numbers m
-toldOf (Refused n) = number n
+toldOf (Accepted m) = accepted m
+toldOf (Refused n) = refused n
 
 -- an answer with the store after the call
-abbrev pub answerOf : Received → List ℕ → Told Message × ℕ × Lent link
-answerOf r store = (toldOf (r .event), r .used, (r .state, store))
+abbrev pub receivedOf : Received → List ℕ → Told Message × ℕ × Lent link
+receivedOf r store = (toldOf (r .event), r .used, (r .state, store))

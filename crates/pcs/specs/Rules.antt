@@ -5,7 +5,7 @@ use mathlib.Core.List.{List, [], _∷_, _++_}
 use mathlib.Core.Option.{Option, none, some}
 use lib.ListN.{length, getD, take, drop}
 use lib.Dec.{eqb, leb, ltb}
-use Rattle.framing.specs.Segment.{Segment, noise, refused, accepted}
+use Rattle.framing.specs.Segment.{Segment, noise, refusedFrame, acceptedFrame}
 use Rattle.packing.specs.Seven.{isSent, valueOf}
 use Rattle.packing.specs.Unpacked.{unpacked}
 use Rattle.checksum.specs.Sum.{sumOf}
@@ -69,25 +69,25 @@ messageWith g d =
 
 -- 13 where the data is badly packed
 abbrev pub unpack : List ℕ → List ℕ → Option (List ℕ) → Segment Message
-unpack g wire none = refused 13 wire
-unpack g wire (some d) = accepted (messageWith g d)
+unpack g wire none = refusedFrame 13 wire
+unpack g wire (some d) = acceptedFrame (messageWith g d)
 
 -- the end of a frame of these wire bytes: 6, 11, 8, 9, 10 (stated against present), 13, in this order
 abbrev pub judge : List ℕ → List ℕ → Segment Message
 judge g wire =
-    cond (ltb (length g) 9) (refused 6 wire)
-    (cond (asksCrc g) (refused 11 wire)
+    cond (ltb (length g) 9) (refusedFrame 6 wire)
+    (cond (asksCrc g) (refusedFrame 11 wire)
     (cond (sumRight g)
-    (cond (fieldsOk g) (cond (eqb (stated g) (length g - 9)) (unpack g wire (unpacked (packedPart g))) (refused 10 wire)) (refused 9 wire))
-    (refused 8 wire)))
+    (cond (fieldsOk g) (cond (eqb (stated g) (length g - 9)) (unpack g wire (unpacked (packedPart g))) (refusedFrame 10 wire)) (refusedFrame 9 wire))
+    (refusedFrame 8 wire)))
 
 -- one more byte is gathered, or 5 where it is one too many
 abbrev pub gather : List ℕ → ℕ → List ℕ → Phase × Option (Segment Message)
-gather g b wire = cond (ltb (length g) size) (inside (g ++ (b ∷ [])), none) (hunting, some (refused 5 wire))
+gather g b wire = cond (ltb (length g) size) (inside (g ++ (b ∷ [])), none) (hunting, some (refusedFrame 5 wire))
 
 -- 253 always starts, with 4 where a frame is open; 254 ends an open frame
-abbrev pub cut : Phase → ℕ → Phase × Option (Segment Message)
-cut hunting b = cond (eqb b 253) (inside [], none) (hunting, some (noise (b ∷ [])))
-cut (inside g) b =
-    cond (eqb b 253) (inside [], some (refused 4 (253 ∷ g)))
+abbrev pub onByte : Phase → ℕ → Phase × Option (Segment Message)
+onByte hunting b = cond (eqb b 253) (inside [], none) (hunting, some (noise (b ∷ [])))
+onByte (inside g) b =
+    cond (eqb b 253) (inside [], some (refusedFrame 4 (253 ∷ g)))
     (cond (eqb b 254) (hunting, some (judge g (253 ∷ g ++ (b ∷ [])))) (gather g b (253 ∷ g ++ (b ∷ []))))

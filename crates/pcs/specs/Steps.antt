@@ -9,7 +9,8 @@ use lib.Dec.{eqb, ltb}
 use Rattle.framing.specs.Answer.{Outcome, done, refused}
 use Rattle.framing.specs.Segment.{Segment, eventOf}
 use Rattle.framing.specs.State.{stateAfter}
-use Rattle.framing.specs.Link.{Lent, Told, numbers, number, told}
+use Rattle.framing.specs.Link.{Lent, Told, accepted, told}
+use Rattle.framing.specs.Link as Link
 use Rattle.framing.specs.Passing.{Leads}
 use Rattle.framing.specs.declared.State.{State}
 use Rattle.pcs.specs.Frame.{plainOk, receiverOk}
@@ -47,7 +48,7 @@ faultOf g =
 -- what is told of numbers once the data are unpacked, or badly packed
 abbrev pub toldWith : Message → Outcome ℕ → Told Message
 toldWith m (done n) =
-    numbers
+    accepted
     (record {
       receiver = m .receiver;
       sender = m .sender;
@@ -57,10 +58,10 @@ toldWith m (done n) =
       «receiver_port» = m .«receiver_port»;
       length = n;
     })
-toldWith m (refused n) = number n
+toldWith m (refused n) = Link.refused n
 
 -- what is answered of a byte by what the rules give: the phase after it, and the segment that it closes
-pub record Answers (s : State) (c : Phase × Option (Segment Frame.Message)) (r : Stepped) : Type 0 where
+pub record ByRules (s : State) (c : Phase × Option (Segment Frame.Message)) (r : Stepped) : Type 0 where
   pub tells : toldOf (r .event) ≡ told link (eventOf (c .1))
   pub state : r .state ≡ stateAfter modeOf gathered held s (c .0) (c .1)
 

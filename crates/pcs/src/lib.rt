@@ -16,11 +16,11 @@ ghost use Rattle.framing.specs.Answer.{outcomeOf};
 ghost use Rattle.framing.specs.Writer.{writes};
 ghost use Rattle.framing.specs.Receiver.{feed};
 ghost use Rattle.framing.specs.Segment.{eventOf};
-ghost use Rattle.framing.specs.Link.{isEvent, told, stepOn, answered, answer};
+ghost use Rattle.framing.specs.Link.{isEvent, told, stepOn, reported, receives};
 ghost use Rattle.pcs.specs.Frame.{ok, frame};
-ghost use Rattle.pcs.specs.Rules.{hunting, inside, size, fieldsOk, messageWith, judge, gather, cut};
-ghost use Rattle.pcs.specs.Contract.{phaseOf, frontOf, numbersOf, dataOf, link, toldOf, answerOf};
-ghost use Rattle.pcs.specs.Steps.{faultOf, toldWith, Answers, Open, Passes};
+ghost use Rattle.pcs.specs.Rules.{hunting, inside, size, fieldsOk, messageWith, judge, gather, onByte};
+ghost use Rattle.pcs.specs.Contract.{phaseOf, frontOf, numbersOf, dataOf, link, toldOf, receivedOf};
+ghost use Rattle.pcs.specs.Steps.{faultOf, toldWith, ByRules, Open, Passes};
 
 // The least store of a receiver: a header of 8 bytes, at most 1,171 packed bytes, the sum.
 const SIZE: usize = 1180;
@@ -84,7 +84,7 @@ pub fn write(
 // Hunting: the start mark opens a frame, any other byte is noise.
 fn hunt(state: State, byte: u8) -> Stepped
     requires { ⌜ state .mode ≡ 0 ⌝ }
-    ensures { λ r. ⌜ Answers state (cut hunting byte) r ⌝ }
+    ensures { λ r. ⌜ ByRules state (onByte hunting byte) r ⌝ }
 {
     if byte == fields::START {
         Stepped {
@@ -102,7 +102,7 @@ fn hunt(state: State, byte: u8) -> Stepped
 // One more byte of the frame is gathered, unless the size is reached.
 fn gather_byte(state: State, store: &mut [u8], byte: u8) -> Stepped
     requires { ⌜ Open state (now store) ⌝ }
-    ensures stepped { λ r. ⌜ ((wire : List ℕ) → Answers state (gather (take (state .count) (now (store .entry))) byte wire) r) ⌝ }
+    ensures stepped { λ r. ⌜ ((wire : List ℕ) → ByRules state (gather (take (state .count) (now (store .entry))) byte wire) r) ⌝ }
     ensures stored { λ r. ⌜ ((wire : List ℕ) → now (store .exit) ≡ over (frontOf (gather (take (state .count) (now (store .entry))) byte wire)) (now (store .entry))) ⌝ }
 {
     let at = state.count;
@@ -213,8 +213,8 @@ fn judge_frame(store: &mut [u8], count: usize) -> Event
 // An open frame: the start mark opens the next one, the end mark ends it, any other byte is gathered.
 fn inside_byte(state: State, store: &mut [u8], byte: u8) -> Stepped
     requires { ⌜ Open state (now store) ⌝ }
-    ensures stepped { λ r. ⌜ Answers state (cut (inside (take (state .count) (now (store .entry)))) byte) r ⌝ }
-    ensures stored { λ r. ⌜ now (store .exit) ≡ over (frontOf (cut (inside (take (state .count) (now (store .entry)))) byte)) (now (store .entry)) ⌝ }
+    ensures stepped { λ r. ⌜ ByRules state (onByte (inside (take (state .count) (now (store .entry)))) byte) r ⌝ }
+    ensures stored { λ r. ⌜ now (store .exit) ≡ over (frontOf (onByte (inside (take (state .count) (now (store .entry)))) byte)) (now (store .entry)) ⌝ }
 {
     if byte == fields::START {
         return Stepped {
@@ -235,8 +235,8 @@ fn inside_byte(state: State, store: &mut [u8], byte: u8) -> Stepped
 // One byte, in any mode.
 fn step(state: State, store: &mut [u8], byte: u8) -> Stepped
     requires { ⌜ (state .count ≤ size) × (size ≤ length (now store)) ⌝ }
-    ensures stepped { λ r. ⌜ Answers state (cut (phaseOf state (now (store .entry))) byte) r ⌝ }
-    ensures stored { λ r. ⌜ now (store .exit) ≡ over (frontOf (cut (phaseOf state (now (store .entry))) byte)) (now (store .entry)) ⌝ }
+    ensures stepped { λ r. ⌜ ByRules state (onByte (phaseOf state (now (store .entry))) byte) r ⌝ }
+    ensures stored { λ r. ⌜ now (store .exit) ≡ over (frontOf (onByte (phaseOf state (now (store .entry))) byte)) (now (store .entry)) ⌝ }
 {
     if state.mode == 0 {
         hunt(state, byte)
@@ -297,7 +297,7 @@ fn advance(state: State, store: &mut [u8], piece: &[u8], from: usize) -> Reached
 // The bytes of a piece, until one makes an event.
 fn scan(state: State, store: &mut [u8], piece: &[u8]) -> Received
     requires { ⌜ (state .count ≤ size) × (size ≤ length (now store)) ⌝ }
-    ensures { λ r. ⌜ answerOf r (now (store .exit)) ≡ answered link (feed (stepOn link) (state, now (store .entry)) (now (piece .entry))) ⌝ }
+    ensures { λ r. ⌜ receivedOf r (now (store .exit)) ≡ reported link (feed (stepOn link) (state, now (store .entry)) (now (piece .entry))) ⌝ }
 {
     let mut current = state;
     let mut i = 0;
@@ -329,7 +329,7 @@ fn scan(state: State, store: &mut [u8], piece: &[u8]) -> Received
 
 // A call of the receiver: uses the bytes of the piece until one makes an event, that one included.
 pub fn receive(state: State, store: &mut [u8], piece: &[u8]) -> Received
-    ensures { λ r. ⌜ answerOf r (now (store .exit)) ≡ answer link (state, now (store .entry)) (now (piece .entry)) ⌝ }
+    ensures { λ r. ⌜ receivedOf r (now (store .exit)) ≡ receives link (state, now (store .entry)) (now (piece .entry)) ⌝ }
 {
     if framing::is_known(state, 2, 1, SIZE) {
         if SIZE <= store.len() {

@@ -8,7 +8,7 @@ use native.Mathlib.Nat.{mul-suc, mul-le-mul-left, zero-add, mul-zero}
 use lib.ListN.{length, getD, take, drop, set, drop-of-length-le, List·getD-map, length-map}
 use lib.Seq.{sets, drop-cons, drop-drop}
 use Rattle.runs.specs.Runs.{each}
-use Rattle.runs.specs.Number.{number, bytesOf}
+use Rattle.runs.specs.Number.{littleEndian, bytesOf}
 use Rattle.runs.proofs.Number.{length-bytesOf}
 use Rattle.runs.proofs.Run.{Run, run-start, run-one, run-part, run-end, sets-append}
 use Rattle.record.specs.Numbers.{numbers, bytesOfAll}
@@ -27,7 +27,7 @@ module _ {A : Type 0} (F : Signedness A) (r : List ℕ) (size count : ℕ) where
   pub length-fares : length fares ≡ count
   length-fares = simp (length-map, length-numbers)
 
-  pub fare-at : (i : ℕ) → i < count → getD fares i (F .fareOf size 0) ≡ F .fareOf size (number (take size (drop (5 + size * i) r)))
+  pub fare-at : (i : ℕ) → i < count → getD fares i (F .fareOf size 0) ≡ F .fareOf size (littleEndian (take size (drop (5 + size * i) r)))
   fare-at i l =
       List·getD-map (F .fareOf size) (numbers size count (drop 5 r)) i 0
       ∙ ap (F .fareOf size) (getD-numbers size count (drop 5 r) i l ∙ rw drop-drop)
@@ -40,7 +40,7 @@ module _ {A : Type 0} (F : Signedness A) (r : List ℕ) (size count : ℕ) where
   fill-start out₀ h = run-start (omega (arith, length-fares)) refl
 
   pub fill-step : {out₀ out : List A} (i : ℕ) (a : A) → Filled out₀ i out → i < count
-      → a ≡ F .fareOf size (number (take size (drop (5 + size * i) r))) → Filled out₀ (i + 1) (set out i a)
+      → a ≡ F .fareOf size (littleEndian (take size (drop (5 + size * i) r))) → Filled out₀ (i + 1) (set out i a)
   fill-step {out₀} {out} i a run l e =
       let next : drop i fares ≡ getD fares i (F .fareOf size 0) ∷ drop (i + 1) fares =
       rw add-one (drop-cons fares i (F .fareOf size 0) (rw length-fares l)) in

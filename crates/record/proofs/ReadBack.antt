@@ -10,7 +10,7 @@ use lib.ListN.{length, getD, take, drop, getElem?, length-append, length-map, le
 use lib.Seq.{sets, take-at, drop-at, drop-drop}
 use borrow.Author.Tests.{le-leb, lt-ltb}
 use Rattle.runs.specs.Runs.{Bytes, over}
-use Rattle.runs.specs.Number.{number, bytesOf}
+use Rattle.runs.specs.Number.{littleEndian, bytesOf}
 use Rattle.runs.proofs.Bytes.{bytes-drop, bytes-take}
 use Rattle.runs.proofs.Cases.{and-both}
 use Rattle.runs.proofs.Number.{number-bytesOf, length-bytesOf}
@@ -70,8 +70,8 @@ module _ {A : Type 0} (F : Signedness A) where
     found-address =
         let small : address < 65536 = omega (arith, facts, limit-le kind) in
         let cut : drop 1 sent ≡ bytesOf 2 address ++ (bytesOf 2 (length l) ++ elements) = append-assoc (bytesOf 2 address) (bytesOf 2 (length l)) elements in
-        ap (λ (b : List ℕ). number (take 2 b)) cut
-        ∙ ap number (take-at (bytesOf 2 address) (bytesOf 2 (length l) ++ elements) 2 (length-bytesOf 2 address))
+        ap (λ (b : List ℕ). littleEndian (take 2 b)) cut
+        ∙ ap littleEndian (take-at (bytesOf 2 address) (bytesOf 2 (length l) ++ elements) 2 (length-bytesOf 2 address))
         ∙ number-bytesOf 2 address small
 
     found-count : countOf sent ≡ length l
@@ -79,8 +79,8 @@ module _ {A : Type 0} (F : Signedness A) where
         let few : length l < 65536 = omega (arith, facts, limit-le kind) in
         let cut : drop 3 sent ≡ bytesOf 2 (length l) ++ elements =
         ap (λ (b : List ℕ). drop 2 b) (append-assoc (bytesOf 2 address) (bytesOf 2 (length l)) elements) ∙ drop-at (bytesOf 2 address) (bytesOf 2 (length l) ++ elements) 2 (length-bytesOf 2 address) in
-        ap (λ (b : List ℕ). number (take 2 b)) cut
-        ∙ ap number (take-at (bytesOf 2 (length l)) elements 2 (length-bytesOf 2 (length l)))
+        ap (λ (b : List ℕ). littleEndian (take 2 b)) cut
+        ∙ ap littleEndian (take-at (bytesOf 2 (length l)) elements 2 (length-bytesOf 2 (length l)))
         ∙ number-bytesOf 2 (length l) few
 
     found-elements : drop 5 sent ≡ elements
@@ -113,7 +113,7 @@ module _ {A : Type 0} (F : Signedness A) where
         let h = there l i a (F .fareOf (sizeOf kind) 0) q in
         let m : i < countOf sent = rw found-count (h .0) in
         let e : fareAt F sent i ≡ a =
-        ap (λ (bs : List ℕ). F .fareOf (sizeOf kind) (number (take (sizeOf kind) bs))) (drop-drop (sizeOf kind * i) 5 sent)
+        ap (λ (bs : List ℕ). F .fareOf (sizeOf kind) (littleEndian (take (sizeOf kind) bs))) (drop-drop (sizeOf kind * i) 5 sent)
         ∙ sym (fare-at F sent (sizeOf kind) (countOf sent) i m)
         ∙ ap (λ (m : List A). getD m i (F .fareOf (sizeOf kind) 0)) written-fares
         ∙ h .1 in
@@ -151,7 +151,7 @@ module _ {A : Type 0} (F : Signedness A) where
 
     accepted-bytes : recordBytes F (kindOf r) (addressOf r) (faresOf F r) ≡ r
     accepted-bytes =
-        let two : (at : ℕ) → at + 2 ≤ 5 → bytesOf 2 (number (take 2 (drop at r))) ≡ take 2 (drop at r) =
+        let two : (at : ℕ) → at + 2 ≤ 5 → bytesOf 2 (littleEndian (take 2 (drop at r))) ≡ take 2 (drop at r) =
         λ at h. bytesOf-sized 2 (take 2 (drop at r)) (bytes-take 2 (drop at r) (bytes-drop at r bytes)) (rw (length-take, length-drop) (omega (arith, shape .room))) in
         rw (
           fares-count,

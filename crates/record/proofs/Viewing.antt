@@ -8,7 +8,7 @@ use lib.ListN.{length, take, drop}
 use lib.Seq.{drop-drop}
 use lib.IntN.{ℤ}
 use borrow.Author.Tests.{lt-ltb, le-ltb, eq-eqb, eqb-true}
-use Rattle.runs.specs.Number.{number}
+use Rattle.runs.specs.Number.{littleEndian}
 use Rattle.runs.proofs.Cases.{and-both}
 use Rattle.framing.specs.Answer.{Outcome, done, refused}
 use Rattle.record.specs.declared.Form.{Form}
@@ -33,12 +33,12 @@ module _ {A : Type 0} (F : Signedness A) {r : List ℕ} {k : ℕ} {g : Form} {n 
   read-absent e l = rw (f .good, same-is true e, le-ltb i (countOf r) (omega (arith, f .count-is)))
 
   pub read-done : (a : A) → same (F .sign) (g .signed) ≡ true → i < n
-      → a ≡ F .fareOf (g .size) (number (take (g .size) (drop (5 + g .size * i) r))) → done a ≡ reading F r i
+      → a ≡ F .fareOf (g .size) (littleEndian (take (g .size) (drop (5 + g .size * i) r))) → done a ≡ reading F r i
   unfolding reading
   read-done a e l q =
-      let at : F .fareOf (g .size) (number (take (g .size) (drop (5 + g .size * i) r))) ≡ fareAt F r i =
-      ap (λ (m : List ℕ). F .fareOf (g .size) (number (take (g .size) m))) (sym (drop-drop (g .size * i) 5 r))
-      ∙ ap (λ (s : ℕ). F .fareOf s (number (take s (drop (s * i) (drop 5 r))))) (size-is f) in
+      let at : F .fareOf (g .size) (littleEndian (take (g .size) (drop (5 + g .size * i) r))) ≡ fareAt F r i =
+      ap (λ (m : List ℕ). F .fareOf (g .size) (littleEndian (take (g .size) m))) (sym (drop-drop (g .size * i) 5 r))
+      ∙ ap (λ (s : ℕ). F .fareOf s (littleEndian (take s (drop (s * i) (drop 5 r))))) (size-is f) in
       rw (f .good, same-is true e, lt-ltb i (countOf r) (omega (arith, f .count-is))) (ap (λ (x : A). done x) (q ∙ at))
 
 -- the element lies in the record

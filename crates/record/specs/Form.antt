@@ -4,7 +4,7 @@ use mathlib.Core.List.{List}
 use mathlib.Core.Bool.{Bool, true, false, cond, _&&_}
 use lib.ListN.{length, getD, take, drop}
 use lib.Dec.{leb, ltb, eqb}
-use Rattle.runs.specs.Number.{number}
+use Rattle.runs.specs.Number.{littleEndian}
 use Rattle.record.specs.declared.Form.{Form}
 use Rattle.record.specs.declared.Head.{Head}
 
@@ -39,11 +39,11 @@ kindOf r = getD r 0 0
 
 -- the address, two bytes
 abbrev pub addressOf : List ℕ → ℕ
-addressOf r = number (take 2 (drop 1 r))
+addressOf r = littleEndian (take 2 (drop 1 r))
 
 -- the count, two bytes
 abbrev pub countOf : List ℕ → ℕ
-countOf r = number (take 2 (drop 3 r))
+countOf r = littleEndian (take 2 (drop 3 r))
 
 -- a known type, at least one element, address plus count within the type's limit, and a whole length of at most 1,024
 unfoldable pub allowed : ℕ → ℕ → ℕ → Bool

@@ -1,4 +1,4 @@
-// Lines of the gate exchange: the asking end, the answering end, and the steps of an address.
+// Lines of the gate exchange: the asking end, the responding end, and the steps of an address.
 use gate::Asked;
 use gate::Hop;
 use gate::Reply;
@@ -8,13 +8,13 @@ use vector_text::words;
 // The two ends, kept from line to line.
 pub(crate) struct Ends {
     asking: gate::Exchange,
-    answering: gate::Answering,
+    answering: gate::Responder,
 }
 
 pub(crate) fn fresh() -> Ends {
     Ends {
         asking: gate::fresh(),
-        answering: gate::fresh_answering(),
+        answering: gate::fresh_responder(),
     }
 }
 
@@ -53,7 +53,7 @@ fn cycle(state: gate::Exchange, count: usize) -> gate::Exchange {
         let waiting = gate::start(ending, 0);
         let asked = waiting.asked;
         last = sent_id(asked, last);
-        let over = gate::arrived(waiting.state, 1, last, 0);
+        let over = gate::arrived(waiting.state, last, 1, 0);
         ending = over.state;
         left -= 1;
     }
@@ -70,8 +70,8 @@ fn step(line: &[u8], asking: gate::Exchange) -> gate::Stepped {
     }
     gate::arrived(
         asking,
-        words::byte(line, 2),
         words::byte(line, 3),
+        words::byte(line, 2),
         words::number32(line, 4),
     )
 }
@@ -103,13 +103,13 @@ fn ask(line: &[u8], asking: gate::Exchange) -> gate::Exchange {
 fn show_reply(reply: Reply) {
     match reply {
         Reply::Nothing => print::word(b"reply none"),
-        Reply::Send(kind, id, address) => print::numbers(b"reply", &[id, kind, 0, address]),
+        Reply::Send(id, kind, address) => print::numbers(b"reply", &[id, kind, 0, address]),
     }
 }
 
-fn answer_request(line: &[u8], answering: gate::Answering) -> gate::Answering {
+fn answer_request(line: &[u8], answering: gate::Responder) -> gate::Responder {
     if words::is(line, 1, b"fresh") {
-        return gate::fresh_answering();
+        return gate::fresh_responder();
     }
     let event = expansion::Event::Accepted(expansion::Message {
         id: words::byte(line, 2),
@@ -118,18 +118,18 @@ fn answer_request(line: &[u8], answering: gate::Answering) -> gate::Answering {
         address: words::byte(line, 5),
         length: 0,
     });
-    let answered = gate::answer(answering, words::is(line, 1, b"head"), event, b"");
+    let answered = gate::respond(answering, words::is(line, 1, b"head"), event, b"");
     let reply = answered.reply;
     show_reply(reply);
     print::named(b"handed", answered.handed_out as u64);
     answered.state
 }
 
-fn answer_refused(line: &[u8], answering: gate::Answering) {
+fn answer_refused(line: &[u8], answering: gate::Responder) {
     let mut store = io::buffer();
     let n = words::bytes(line, 3, b"", &mut store);
     let event = expansion::Event::Refused(words::byte(line, 2));
-    let answered = gate::answer(answering, words::is(line, 1, b"head"), event, &store[..n]);
+    let answered = gate::respond(answering, words::is(line, 1, b"head"), event, &store[..n]);
     let reply = answered.reply;
     show_reply(reply);
 }

@@ -4,18 +4,18 @@ use mathlib.Core.Path.{_≡_, refl}
 use mathlib.Core.List.{List}
 use native.Mathlib.Omega.{arith}
 use lib.ListN.{length, getD, take, drop}
-use Rattle.runs.specs.Number.{number}
+use Rattle.runs.specs.Number.{littleEndian}
 use Rattle.runs.proofs.Bytes.{drop-next}
 use Rattle.checksum.proofs.word.Statement.{statement}
 use Rattle.checksum.proofs.word.Tie as tie
 
 -- the number of n + 1 bytes from a place on is that of the n behind the first, and the first
-number-next : (s : List ℕ) (at next n : ℕ) → at < length s → next ≡ at + 1 → number (take (suc n) (drop at s)) ≡ number (take n (drop next s)) * 256 + getD s at 0
-unfolding number
+number-next : (s : List ℕ) (at next n : ℕ) → at < length s → next ≡ at + 1 → littleEndian (take (suc n) (drop at s)) ≡ littleEndian (take n (drop next s)) * 256 + getD s at 0
+unfolding littleEndian
 number-next s at next n h e = rw (drop-next s at h, e)
 
-last : (l : List ℕ) → number (take 0 l) ≡ 0
-unfolding number
+last : (l : List ℕ) → littleEndian (take 0 l) ≡ 0
+unfolding littleEndian
 last l = refl
 
 add-pair : tie.Need-add-pair

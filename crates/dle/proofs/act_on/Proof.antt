@@ -6,7 +6,7 @@ use lib.ListN.{take}
 use lib.Seq.{length-take-le}
 use Rattle.runs.specs.Runs.{each}
 use Rattle.runs.proofs.Run.{same-over}
-use Rattle.dle.proofs.Cut.{judge-noise}
+use Rattle.dle.proofs.OnByte.{judge-noise}
 use Rattle.dle.proofs.act_on.Statement.{statement}
 use Rattle.dle.proofs.act_on.Tie as tie
 

@@ -6,7 +6,7 @@ use lib.Seq.{length-take-le}
 use Rattle.runs.proofs.Each.{each-nil}
 use Rattle.escape.specs.Expansion.{hideByte}
 use Rattle.runs.proofs.Run.{same-over}
-use Rattle.expansion.proofs.Cut.{judge-noise}
+use Rattle.expansion.proofs.OnByte.{judge-noise}
 use borrow.Author.Needs.{needs}
 use Rattle.expansion.proofs.act_on.Statement.{statement}
 use Rattle.expansion.proofs.act_on.Tie as tie

@@ -12,7 +12,7 @@ known-is c = sym (c .before .is-known .ensures) ∙ not-false _ (c .if1 .left)
 
 -- a reply with the waiting id
 awaited : (c : tie.Else3) → let a = c .before .before .before .before .before .before .args in
-    asks (exchangeOf (a .state)) (arrival (a .kind) (a .id) (a .now)) ≡ replied (exchangeOf (a .state)) (a .kind) (a .now)
+    asks (exchangeOf (a .state)) (arrival (a .id) (a .kind) (a .now)) ≡ replied (exchangeOf (a .state)) (a .kind) (a .now)
 awaited c = simp (known-is (c .before .before .before .before), eq-eqb _ _ (c .before .before .if2 .left), eq-eqb _ _ (c .if3 .left))
 
 is-known-requires : tie.Need-is-known-requires

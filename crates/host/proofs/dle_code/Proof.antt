@@ -1,5 +1,5 @@
 use borrow.Author.Tests.{ne-eqb}
-use Rattle.runs.specs.Number.{number}
+use Rattle.runs.specs.Number.{littleEndian}
 use Rattle.host.specs.Read.{packed}
 use borrow.Author.Needs.{needs}
 use Rattle.host.proofs.dle_code.Statement.{statement}
@@ -15,11 +15,11 @@ pack-requires-2 : tie.Need-pack-requires-2
 pack-requires-2 c κs = search needs
 
 returns : tie.Need-returns
-unfolding packed number
+unfolding packed littleEndian
 returns c = rw (c .before .if1 .taken) (c .pack .ensures)
 
 returns-2 : tie.Need-returns-2
-unfolding packed number
+unfolding packed littleEndian
 returns-2 c = simp (ne-eqb _ _ (c .before .before .if1 .left)) (c .pack2 .ensures)
 
 pub dle-code-spec : {M : Type 1} → statement M

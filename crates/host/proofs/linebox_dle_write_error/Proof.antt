@@ -17,14 +17,14 @@ returns : tie.Need-returns
 returns c =
     let a = c .before .before .before .before .before .before .args in
     answer-is Dle.link dle-bound (error (a .sequence) (a .node) (a .error))
-    (now (a .out)) (c .before .before .before .write-error .ensures) _ (record { sfits = c .signed-of .ok }) (c .signed-of .ensures)
+    (now (a .out)) (c .before .before .before .write-error .ensures) _ (record { sfits = c .int32-of .ok }) (c .int32-of .ensures)
 
-signed-of-requires : tie.Need-signed-of-requires
-signed-of-requires c κs =
+int32-of-requires : tie.Need-int32-of-requires
+int32-of-requires c κs =
     let a = c .before .before .before .before .before .args in
     answer-short Dle.link dle-bound (error (a .sequence) (a .node) (a .error))
     (now (a .out)) (c .before .before .write-error .ensures)
 
 pub linebox-dle-write-error-spec : {M : Type 1} → statement M
 linebox-dle-write-error-spec =
-    tie.close (tie.spec write-error-requires signed-of-requires same-length returns)
+    tie.close (tie.spec write-error-requires int32-of-requires same-length returns)

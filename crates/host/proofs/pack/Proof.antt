@@ -1,4 +1,4 @@
-use Rattle.runs.specs.Number.{number}
+use Rattle.runs.specs.Number.{littleEndian}
 use Rattle.host.specs.Read.{packed}
 use borrow.Author.Needs.{needs}
 use Rattle.host.proofs.pack.Statement.{statement}
@@ -47,7 +47,7 @@ add-result-2 : tie.Need-add-result-2
 add-result-2 c = search needs
 
 returns : tie.Need-returns
-unfolding packed number
+unfolding packed littleEndian
 returns c = search needs
 
 pub pack-spec : {M : Type 1} → statement M

@@ -4,7 +4,7 @@ use lib.ListN.{take}
 use lib.Seq.{length-take-le}
 use borrow.Author.Needs.{needs}
 use Rattle.framing.specs.Answer.{outcomeOf}
-use Rattle.framing.specs.Link.{number}
+use Rattle.framing.specs.Link.{refused}
 use Rattle.pcs.specs.Steps.{faultOf, toldWith}
 use Rattle.pcs.specs.declared.Message.{Message}
 use Rattle.pcs.proofs.Judge.{fault-long, judge-fault, judge-told, judge-stored}
@@ -31,7 +31,7 @@ returns c =
     let f = c .before .fault-of .ensures in
     let g = take (a .count) (a .store .now) in
     let n : faultOf g ≡ 0 → ⊥ = λ e. c .if1 .taken (f ∙ e) in
-    (λ wire. rw (judge-fault g wire n) (ap number f), λ wire. rw (judge-fault g wire n))
+    (λ wire. rw (judge-fault g wire n) (ap refused f), λ wire. rw (judge-fault g wire n))
 
 slice-reshare-prefix-head-of : tie.Need-slice-reshare-prefix-head-of
 slice-reshare-prefix-head-of c = search needs

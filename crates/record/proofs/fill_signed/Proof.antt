@@ -2,7 +2,7 @@ use Prim.Native.Nat.{_+_, _*_, _-_, _≤_}
 use mathlib.Core.Path.{_≡_, ap, _∙_}
 use native.Mathlib.Omega.{arith}
 use lib.ListN.{take, drop}
-use Rattle.runs.specs.Number.{number}
+use Rattle.runs.specs.Number.{littleEndian}
 use Rattle.runs.proofs.Number.{sized, sized-lt}
 use Rattle.record.specs.Fares.{signed}
 use Rattle.record.proofs.Complement.{read-back}
@@ -37,7 +37,7 @@ number-at-requires c κs = tt
 module _ (c : tie.After-number-at Inv-loop μ-loop) where
   number-is :
       let a = c .before .before .before .before .args in
-      c .number-at .result ≡ number (take (a .size) (drop (5 + a .size * c .before .before .loop .i) (a .bytes .now)))
+      c .number-at .result ≡ littleEndian (take (a .size) (drop (5 + a .size * c .before .before .loop .i) (a .bytes .now)))
   number-is =
       let a = c .before .before .before .before .args in
       sized (a .bytes .now) (5 + a .size * c .before .before .loop .i) (a .size) _ (omega arith) (c .number-at .ensures)

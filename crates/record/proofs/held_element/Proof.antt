@@ -6,7 +6,7 @@ use mathlib.Core.Logic.{⊎-elim}
 use native.Mathlib.Omega.{arith}
 use lib.ListN.{take, drop}
 use borrow.Author.Tests.{eqb-true, eqb-false, not-true, not-false}
-use Rattle.runs.specs.Number.{number}
+use Rattle.runs.specs.Number.{littleEndian}
 use Rattle.runs.proofs.Number.{sized, sized-lt}
 use Rattle.record.specs.Fares.{unsigned, signed}
 use Rattle.record.proofs.Complement.{read-back}
@@ -58,7 +58,7 @@ module _ (c : tie.After-number-at) where
   number-is :
       let a = c .before .before .before .before .before .before .before .before .args in
       let size = c .before .before .form-of .result .size in
-      c .number-at .result ≡ number (take size (drop (5 + size * a .index) (a .payload .now)))
+      c .number-at .result ≡ littleEndian (take size (drop (5 + size * a .index) (a .payload .now)))
   number-is =
       let a = c .before .before .before .before .before .before .before .before .args in
       let size = c .before .before .form-of .result .size in

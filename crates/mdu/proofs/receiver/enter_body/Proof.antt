@@ -1,7 +1,7 @@
 use mathlib.Core.Path.{refl, sym, _∙_}
 use native.Mathlib.Omega.{arith}
 use lib.Seq.{length-take-le}
-use Rattle.mdu.proofs.Steps.{answers-more, answers-refused, enter-version, enter-address, enter-sum, enter-length, enter-tail}
+use Rattle.mdu.proofs.Steps.{by-rules-more, by-rules-refused, enter-version, enter-address, enter-sum, enter-length, enter-tail}
 use borrow.Author.Needs.{needs}
 use Rattle.mdu.proofs.receiver.enter_body.Statement.{statement}
 use Rattle.mdu.proofs.receiver.enter_body.Tie as tie
@@ -15,7 +15,7 @@ end-requires c κs = search needs
 returns : tie.Need-returns
 returns c =
     let a = c .before .before .before .before .before .args in
-    answers-refused (a .state) _ (c .end .result) _ _ (enter-version (a .store .now) (c .before .if1 .taken)) (c .end .ensures)
+    by-rules-refused (a .state) _ (c .end .result) _ _ (enter-version (a .store .now) (c .before .if1 .taken)) (c .end .ensures)
 
 shared-slice-read-if2 : tie.Need-shared-slice-read-if2
 shared-slice-read-if2 c = search needs
@@ -26,7 +26,7 @@ end-requires-2 c κs = search needs
 returns-2 : tie.Need-returns-2
 returns-2 c =
     let a = c .before .before .before .before .before .before .before .args in
-    answers-refused (a .state) _ (c .end2 .result) _ _ (enter-address (a .store .now) (c .before .before .before .if1 .left) (c .before .if2 .taken)) (c .end2 .ensures)
+    by-rules-refused (a .state) _ (c .end2 .result) _ _ (enter-address (a .store .now) (c .before .before .before .if1 .left) (c .before .if2 .taken)) (c .end2 .ensures)
 
 shared-slice-read-if3 : tie.Need-shared-slice-read-if3
 shared-slice-read-if3 c = search needs
@@ -58,7 +58,7 @@ returns-3 c =
     let i = c .before .before .before .before .before .before .before .before .before in
     let v = i .before .before in
     let a = v .before .before .before .before .args in
-    answers-refused (a .state) _ (c .end3 .result) _ _
+    by-rules-refused (a .state) _ (c .end3 .result) _ _
     (enter-sum (a .store .now) (v .if1 .left) (i .if2 .left) (λ e. c .before .if3 .taken (e ∙ sym (c .before .before .header-sum .ensures)))) (c .end3 .ensures)
 
 shared-slice-read-joined : tie.Need-shared-slice-read-joined
@@ -86,7 +86,7 @@ returns-4 c =
     let i = s .before .before .before .before .before .before .before .before in
     let v = i .before .before in
     let a = v .before .before .before .before .args in
-    answers-more (a .state) _ (c .go-on .result) _
+    by-rules-more (a .state) _ (c .go-on .result) _
     (enter-tail (a .store .now) (v .if1 .left) (i .if2 .left) (s .if3 .left ∙ s .before .header-sum .ensures)
     (rw (c .before .before .before .joined .ensures) at (sym (c .before .before .length-ok .ensures) ∙ c .before .if4 .taken)))
     (v .before .before .before .before .pre .mode) refl
@@ -98,7 +98,7 @@ returns-5 c =
     let i = s .before .before .before .before .before .before .before .before in
     let v = i .before .before in
     let a = v .before .before .before .before .args in
-    answers-refused (a .state) _ (c .end4 .result) _ _
+    by-rules-refused (a .state) _ (c .end4 .result) _ _
     (enter-length (a .store .now) (v .if1 .left) (i .if2 .left) (s .if3 .left ∙ s .before .header-sum .ensures)
     (rw (c .before .before .before .joined .ensures) at (sym (c .before .before .length-ok .ensures) ∙ c .before .if4 .left))) (c .end4 .ensures)
 

@@ -9,17 +9,17 @@ use lib.ListN.{length, getD, drop, length-append, length-drop}
 use lib.Dec.{leb}
 use borrow.Author.Tests.{ne-eqb}
 use Rattle.runs.proofs.Cases.{by-eqb, by-ltb}
-use Rattle.framing.specs.Segment.{Segment, refused, accepted, noiseAfter}
+use Rattle.framing.specs.Segment.{Segment, refusedFrame, acceptedFrame, noiseAfter}
 use Rattle.framing.proofs.Byte.{Reached, Takes, goes-on, restarts, closes, Ends, by-end, ends-quiet}
 use Rattle.escape.specs.Code.{Meaning, byte, meaning, hide}
 use Rattle.runs.specs.Runs.{each}
 use Rattle.escape.specs.Dle.{dle}
 use Rattle.escape.proofs.Lawful.{hide-more, hide-short}
 use Rattle.escape.proofs.Dle.{dle-lawful}
-use Rattle.dle.specs.Frame.{Message, ok, payload, enclose}
-use Rattle.dle.specs.Rules.{Phase, hunting, half, inside, size, gathered, held, judge, gather, act, cut}
+use Rattle.dle.specs.Frame.{Message, ok, body, enclose}
+use Rattle.dle.specs.Rules.{Phase, hunting, half, inside, size, gathered, held, judge, gather, act, onByte}
 use Rattle.dle.specs.Contract.{link}
-use Rattle.dle.proofs.Payload.{error-payload, content-payload, length-ok, message-back}
+use Rattle.dle.proofs.Body.{error-body, content-body, length-ok, message-back}
 
 -- no more is gathered than the store holds
 abbrev pub reached : Reached link
@@ -43,16 +43,16 @@ reached =
 abbrev Next : List ℕ → List ℕ → Phase × Option (Segment Message) → Type 0
 Next g wire r = Takes reached g wire (gathered (r .0)) r
 
--- the end of a frame: an accepted message has the gathered bytes as its payload
+-- the end of a frame: an accepted message has the gathered bytes as its body
 abbrev Judged : List ℕ → Message → Type 0
-Judged g m = (payload m ≡ g) × (length g ≤ size → ok m ≡ true)
+Judged g m = (body m ≡ g) × (length g ≤ size → ok m ≡ true)
 
 judge-ends : (g wire : List ℕ) → Ends (Judged g) wire (judge g wire)
 judge-ends g wire =
     by-ltb P (length g) 4 (λ _. refl) (λ l.
     by-eqb P (getD g 2 0) 0
-    (λ z. by-eqb P (length g) 4 (λ k. (error-payload g k z, λ _. refl)) (λ _. refl))
-    (λ z. by-eqb P (getD g 2 0) (length g - 3) (λ k. (content-payload g l k, may l)) (λ _. refl)))
+    (λ z. by-eqb P (length g) 4 (λ k. (error-body g k z, λ _. refl)) (λ _. refl))
+    (λ z. by-eqb P (getD g 2 0) (length g - 3) (λ k. (content-body g l k, may l)) (λ _. refl)))
   where
     P : Segment Message → Type 0
     P = Ends (Judged g) wire
@@ -66,8 +66,8 @@ judge-noise g wire n = ends-quiet (Judged g) wire (judge g wire) (judge-ends g w
 judge-takes : (g wire : List ℕ) → length g ≤ size → enclose g ≡ wire → Next g wire (hunting, some (judge g wire))
 judge-takes g wire h e =
     by-end (λ (s : Segment Message). Next g wire (hunting, some s)) (Judged g) wire (judge g wire) (judge-ends g wire)
-    (λ n. closes reached g wire [] (refused n wire) refl (omega arith) tt)
-    (λ m t. closes reached g wire [] (accepted m) (ap enclose (t .0) ∙ e) (omega arith)
+    (λ n. closes reached g wire [] (refusedFrame n wire) refl (omega arith) tt)
+    (λ m t. closes reached g wire [] (acceptedFrame m) (ap enclose (t .0) ∙ e) (omega arith)
     (record {
       may = t .1 h;
       read = λ store front. message-back m store (t .1 h) (rw (t .0) front);
@@ -85,7 +85,7 @@ gather-takes waiting g w b e =
     more : hide dle (g ++ (b ∷ [])) ++ [] ≡ (hide dle g ++ cond waiting (0x10 ∷ []) []) ++ (w ∷ [])
     more = append-nil (hide dle (g ++ (b ∷ []))) ∙ sym (hide-more dle dle-lawful 0x10 refl waiting g w b e)
 
-pub takes : (p : Phase) (b : ℕ) → length (gathered p) ≤ size → Next (gathered p) (held p ++ (b ∷ [])) (cut p b)
+pub takes : (p : Phase) (b : ℕ) → length (gathered p) ≤ size → Next (gathered p) (held p ++ (b ∷ [])) (onByte p b)
 unfolding each
 takes hunting b h =
     by-eqb (Next [] (b ∷ [])) b 0x10 (λ e. goes-on reached [] _ half (rw e) (omega arith)) (λ _. closes reached [] _ [] _ refl (omega arith) tt)

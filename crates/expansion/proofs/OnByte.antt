@@ -10,14 +10,14 @@ use lib.Dec.{lit<}
 use Rattle.runs.specs.Runs.{Bytes}
 use Rattle.runs.proofs.Bytes.{bytes-more}
 use Rattle.runs.proofs.Cases.{by-test, by-eqb, by-ltb}
-use Rattle.framing.specs.Segment.{Segment, refused, accepted, noiseAfter}
+use Rattle.framing.specs.Segment.{Segment, refusedFrame, acceptedFrame, noiseAfter}
 use Rattle.framing.proofs.Byte.{data-stands, Reached, Takes, goes-on, restarts, closes, Ends, by-end, ends-quiet}
 use Rattle.escape.specs.Code.{Meaning, byte, waits, start, end, wrong, meaning, hide}
 use Rattle.escape.specs.Expansion.{hideByte, expansion}
 use Rattle.escape.proofs.Lawful.{hide-more, hide-short}
 use Rattle.escape.proofs.Expansion.{expansion-lawful}
 use Rattle.expansion.specs.Frame.{Message, ok, body, trailer, enclose}
-use Rattle.expansion.specs.Rules.{Phase, hunting, inside, size, gathered, held, checkRight, fieldsOk, judge, gather, act, cut}
+use Rattle.expansion.specs.Rules.{Phase, hunting, inside, size, gathered, held, checkRight, fieldsOk, judge, gather, act, onByte}
 use Rattle.expansion.specs.Contract.{numbersOf, messageOf, link}
 use Rattle.runs.proofs.Each.{each-nil}
 use Rattle.expansion.proofs.Hidden.{Meant, meant}
@@ -78,8 +78,8 @@ read-back m store stands =
 judge-takes : (g wire : List ℕ) → Good (inside false g) → enclose g ≡ wire → Next g wire (hunting, some (judge g wire))
 judge-takes g wire h e =
     by-end (λ (s : Segment Message). Next g wire (hunting, some s)) (Judged g) wire (judge g wire) (judge-ends g wire)
-    (λ n. closes reached g wire [] (refused n wire) refl (omega arith) tt)
-    (λ m t. closes reached g wire [] (accepted m) (ap enclose (t h .0) ∙ e) (omega arith)
+    (λ n. closes reached g wire [] (refusedFrame n wire) refl (omega arith) tt)
+    (λ m t. closes reached g wire [] (acceptedFrame m) (ap enclose (t h .0) ∙ e) (omega arith)
     (record {
       may = t h .1;
       read = λ store stands. read-back m store (subst (λ (x : List ℕ). take (length x) store ≡ x) (sym (t h .0)) stands);
@@ -91,7 +91,7 @@ gather-takes : (g : List ℕ) (b : ℕ) (wire : List ℕ) → Good (inside false
 gather-takes g b wire h y e =
     by-ltb (Next g wire) (length g) size
     (λ l. goes-on reached g wire (inside false (g ++ (b ∷ []))) e (bytes-more g b (h .0) y, simp length-append (omega arith)))
-    (λ _. closes reached g wire [] (refused 5 wire) refl (omega arith) tt)
+    (λ _. closes reached g wire [] (refusedFrame 5 wire) refl (omega arith) tt)
 
 -- a byte of an open frame, by its meaning
 module _ (w : Bool) (g : List ℕ) (b : ℕ) (h : Good (inside w g)) where
@@ -112,9 +112,9 @@ module _ (w : Bool) (g : List ℕ) (b : ℕ) (h : Good (inside w g)) where
       (reached .good-first)
   act-takes end e y =
       judge-takes g wire h (rw (y .0, y .1) (ap (λ (x : List ℕ). 0xFD ∷ (x ++ (0xFE ∷ []))) (sym (append-nil (hide expansion g)))))
-  act-takes wrong e y = closes reached g wire [] (refused 7 wire) refl (omega arith) tt
+  act-takes wrong e y = closes reached g wire [] (refusedFrame 7 wire) refl (omega arith) tt
 
-pub takes : (p : Phase) (b : ℕ) → b < 256 → Good p → Next (gathered p) (held p ++ (b ∷ [])) (cut p b)
+pub takes : (p : Phase) (b : ℕ) → b < 256 → Good p → Next (gathered p) (held p ++ (b ∷ [])) (onByte p b)
 takes hunting b y h =
     by-eqb (Next [] (b ∷ [])) b 0xFD (λ e. goes-on reached [] (b ∷ []) (inside false []) (held-open ∙ ap (λ (x : ℕ). x ∷ []) (sym e)) (reached .good-first))
     (λ _. closes reached [] (b ∷ []) [] _ refl (omega arith) tt)

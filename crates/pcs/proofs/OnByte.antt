@@ -10,7 +10,7 @@ use lib.Seq.{take-suc, take-all, take-add, take-append-seam}
 use borrow.Author.Tests.{le-leb}
 use Rattle.runs.specs.Runs.{over}
 use Rattle.runs.proofs.Cases.{by-test, by-eqb, by-ltb}
-use Rattle.framing.specs.Segment.{Segment, refused, accepted, noiseAfter}
+use Rattle.framing.specs.Segment.{Segment, refusedFrame, acceptedFrame, noiseAfter}
 use Rattle.framing.proofs.Byte.{data-stands, Reached, Takes, goes-on, restarts, closes, Ends, by-end, ends-quiet}
 use Rattle.packing.specs.Seven.{sent}
 use Rattle.packing.specs.Packed.{packed}
@@ -20,7 +20,7 @@ use Rattle.packing.proofs.Lengths.{length-packed}
 use Rattle.packing.proofs.Laws.{packed-unpacked}
 use Rattle.checksum.specs.Sum.{sumOf}
 use Rattle.pcs.specs.Frame.{Message, ok, body, frame}
-use Rattle.pcs.specs.Rules.{Phase, hunting, inside, size, gathered, held, stated, packedPart, asksCrc, fieldsOk, messageWith, unpack, judge, cut}
+use Rattle.pcs.specs.Rules.{Phase, hunting, inside, size, gathered, held, stated, packedPart, asksCrc, fieldsOk, messageWith, unpack, judge, onByte}
 use Rattle.pcs.specs.Contract.{frontOf, numbersOf, messageOf, link}
 use Rattle.pcs.proofs.Allowed.{kind-same, Allowed, allowed, sendable}
 
@@ -144,11 +144,11 @@ read-back m store =
 judge-takes : (g w : List ℕ) → length g ≤ size → 253 ∷ g ++ (254 ∷ []) ≡ w → Next g w (hunting, some (judge g w))
 judge-takes g w h e =
     by-end (λ (s : Segment Message). Next g w (hunting, some s)) (Judged g) w (judge g w) (judge-ends g w)
-    (λ n. closes reached g w [] (refused n w) refl (omega arith) tt)
-    (λ m t. closes reached g w (m .payload) (accepted m) (t h .0 ∙ e) (omega (arith, sendable m (t h .1) .most))
+    (λ n. closes reached g w [] (refusedFrame n w) refl (omega arith) tt)
+    (λ m t. closes reached g w (m .payload) (acceptedFrame m) (t h .0 ∙ e) (omega (arith, sendable m (t h .1) .most))
     (record { may = t h .1; read = λ store _. read-back m store; hunts = refl }))
 
-pub takes : (p : Phase) (b : ℕ) → length (gathered p) ≤ size → Next (gathered p) (held p ++ (b ∷ [])) (cut p b)
+pub takes : (p : Phase) (b : ℕ) → length (gathered p) ≤ size → Next (gathered p) (held p ++ (b ∷ [])) (onByte p b)
 takes hunting b h =
     by-eqb (Next [] (b ∷ [])) b 253 (λ e. goes-on reached [] (b ∷ []) (inside []) (rw e) (omega arith))
     (λ _. closes reached [] (b ∷ []) [] _ refl (omega arith) tt)
@@ -156,7 +156,7 @@ takes (inside g) b h =
     by-eqb (Next g w) b 253 (λ e. restarts reached g w (inside []) 4 (253 ∷ g) (rw e) (omega arith))
     (λ _. by-eqb (Next g w) b 254 (λ e. judge-takes g w h (rw e))
     (λ _. by-ltb (Next g w) (length g) size (λ l. goes-on reached g w (inside (g ++ (b ∷ []))) refl (simp length-append (omega arith)))
-    (λ _. closes reached g w [] (refused 5 w) refl (omega arith) tt)))
+    (λ _. closes reached g w [] (refusedFrame 5 w) refl (omega arith) tt)))
   where
     w : List ℕ
     w = 253 ∷ g ++ (b ∷ [])

@@ -1,7 +1,7 @@
 use borrow.Author.Tests.{lt-leb, le-leb, eq-eqb, ne-eqb}
 use borrow.Author.Needs.{needs}
-use Rattle.gate.proofs.answer_refusal.Statement.{statement}
-use Rattle.gate.proofs.answer_refusal.Tie as tie
+use Rattle.gate.proofs.respond_to_refusal.Statement.{statement}
+use Rattle.gate.proofs.respond_to_refusal.Tie as tie
 
 say-nothing-requires : tie.Need-say-nothing-requires
 say-nothing-requires c κs = search needs
@@ -27,8 +27,8 @@ reply-to-requires c κs = search needs
 returns-3 : tie.Need-returns-3
 returns-3 c = simp (eq-eqb _ _ (c .before .before .before .before .if1 .left), le-leb _ _ (c .before .before .before .if2 .left), c .reply-to .ensures)
 
-pub answer-refusal-spec : {M : Type 1} → statement M
-answer-refusal-spec =
+pub respond-to-refusal-spec : {M : Type 1} → statement M
+respond-to-refusal-spec =
     tie.close
     (tie.spec
     say-nothing-requires

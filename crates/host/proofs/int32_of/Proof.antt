@@ -4,8 +4,8 @@ use mir.Syntax.{w32}
 use mir.ValLaws.{toZ-pos}
 use Rattle.host.proofs.Signed.{minus-fits, minus-value}
 use borrow.Author.Needs.{needs}
-use Rattle.host.proofs.signed_of.Statement.{statement}
-use Rattle.host.proofs.signed_of.Tie as tie
+use Rattle.host.proofs.int32_of.Statement.{statement}
+use Rattle.host.proofs.int32_of.Tie as tie
 
 enum-known-answer : tie.Need-enum-known-answer
 enum-known-answer c = search needs
@@ -31,8 +31,8 @@ returns-2 c = rw (c .before .answer2 .given .1) (minus-value (c .before .answer2
 sub-result : tie.Need-sub-result
 sub-result c = minus-fits (c .before .answer2 .given .0 .0) (omega (arith, c .known-told2 .given))
 
-pub signed-of-spec : {M : Type 1} → statement M
-signed-of-spec =
+pub int32-of-spec : {M : Type 1} → statement M
+int32-of-spec =
     tie.close
     (tie.spec
     enum-known-answer

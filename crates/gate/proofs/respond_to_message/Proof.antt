@@ -1,8 +1,8 @@
 use borrow.Author.Tests.{eq-eqb, ne-eqb}
 use mathlib.Core.Path.{sym, _∙_}
 use borrow.Author.Needs.{needs}
-use Rattle.gate.proofs.answer_message.Statement.{statement}
-use Rattle.gate.proofs.answer_message.Tie as tie
+use Rattle.gate.proofs.respond_to_message.Statement.{statement}
+use Rattle.gate.proofs.respond_to_message.Tie as tie
 
 say-nothing-requires : tie.Need-say-nothing-requires
 say-nothing-requires c κs = search needs
@@ -22,8 +22,8 @@ returns-2 c = simp (eq-eqb _ _ (c .before .before .before .if1 .left), sym (c .b
 returns-3 : tie.Need-returns-3
 returns-3 c = simp (eq-eqb _ _ (c .before .before .before .if1 .left), sym (c .before .is-repeated .ensures) ∙ c .if2 .left, c .before .before .reply-to .ensures)
 
-pub answer-message-spec : {M : Type 1} → statement M
-answer-message-spec =
+pub respond-to-message-spec : {M : Type 1} → statement M
+respond-to-message-spec =
     tie.close
     (tie.spec
     say-nothing-requires

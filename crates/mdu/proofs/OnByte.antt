@@ -12,11 +12,11 @@ use borrow.Author.Tests.{le-leb, eqb-true, eqb-false, not-true}
 use Rattle.runs.specs.Runs.{Bytes, over}
 use Rattle.runs.proofs.Bytes.{bytes-one, bytes-more}
 use Rattle.runs.proofs.Cases.{by-test, by-eqb, and-both}
-use Rattle.framing.specs.Segment.{Segment, noise, refused, accepted}
+use Rattle.framing.specs.Segment.{Segment, noise, refusedFrame, acceptedFrame}
 use Rattle.framing.proofs.Byte.{data-stands, Takes, goes-on, closes}
 use Rattle.checksum.specs.Crc.{crc16Of}
 use Rattle.mdu.specs.Frame.{Message, lengthOk, headerSum, header, trailer, frame}
-use Rattle.mdu.specs.Rules.{Phase, hunting, head, tail, size, gathered, held, stated, sentCheck, enter, finish, cut}
+use Rattle.mdu.specs.Rules.{Phase, hunting, inHeader, inBody, size, gathered, held, stated, sentCheck, enter, finish, onByte}
 use Rattle.mdu.specs.Contract.{front, numbersOf, messageOf}
 use Rattle.mdu.proofs.Known.{length-most}
 use Rattle.mdu.proofs.Entered.{Good, reached, entered, two}
@@ -31,14 +31,14 @@ enter-takes g w l y e =
     (λ t. let v = and-both (eqb (getD w 1 0) 0x01) (not (eqb (getD w 4 0) 0)) t in
     by-eqb (Next g w) (getD w 5 0) (headerSum w)
     (λ s. by-test (Next g w) (lengthOk (stated w))
-    (λ k. goes-on reached g w (tail (stated w) w) refl
+    (λ k. goes-on reached g w (inBody (stated w) w) refl
     (entered w l y e (eqb-true (getD w 1 0) 1 (v .0)) (eqb-false (getD w 4 0) 0 (not-true (eqb (getD w 4 0) 0) (v .1))) s k))
     (λ _. ends 10))
     (λ _. ends 8))
     (λ _. ends 9)
   where
-    ends : (n : ℕ) → Next g w (hunting, some (refused n w))
-    ends n = closes reached g w w (refused n w) refl (omega arith) tt
+    ends : (n : ℕ) → Next g w (hunting, some (refusedFrame n w))
+    ends n = closes reached g w w (refusedFrame n w) refl (omega arith) tt
 
 -- a message whose frame stands at the start of the store is read there
 read-back : (m : Message) (w store : List ℕ) → frame m ≡ w → messageOf (over w store) (numbersOf m) ≡ m
@@ -54,9 +54,9 @@ finish-takes k g w a e i l low allowed y =
     subst (λ (x : List ℕ). Next g x (hunting, some (finish k x))) (sym i)
     (by-eqb (λ (s : Segment Message). Next g whole (hunting, some s)) (sentCheck k whole) (crc16Of body)
     (λ c. let f = framed (sym c ∙ numbers) in
-    closes reached g whole whole (accepted (record { address = a; body = body })) f fits
+    closes reached g whole whole (acceptedFrame (record { address = a; body = body })) f fits
     (record { may = rw (length-take-le k e (omega arith), allowed, le-leb 1 a low); read = λ store _. read-back _ whole store f; hunts = refl }))
-    (λ _. closes reached g whole whole (refused 8 whole) refl fits tt))
+    (λ _. closes reached g whole whole (refusedFrame 8 whole) refl fits tt))
   where
     whole : List ℕ
     whole = header k a ++ e
@@ -78,24 +78,24 @@ finish-takes k g w a e i l low allowed y =
         let m : crc16Of body % 256 ≡ getD e (suc k) 0 = omega (arith, y (suc k)) in
         rw (length-take-le k e (omega arith), h, m) (ap (λ (x : List ℕ). header k a ++ x) (sym (two e k l)))
 
-pub takes : (p : Phase) (b : ℕ) → b < 256 → Good p → Takes reached (gathered p) (held p ++ (b ∷ [])) (front p b) (cut p b)
+pub takes : (p : Phase) (b : ℕ) → b < 256 → Good p → Takes reached (gathered p) (held p ++ (b ∷ [])) (front p b) (onByte p b)
 takes hunting b y h = go (eqb b 0xE3) (eqb-true b 0xE3)
   where
     go : (t : Bool) → (t ≡ true → b ≡ 0xE3)
-        → Takes reached [] (b ∷ []) (cond t (b ∷ []) []) (cond t (head (b ∷ []), none) (hunting, some (noise (b ∷ []))))
-    go true e = goes-on reached [] (b ∷ []) (head (b ∷ [])) refl (bytes-one b y, omega arith, omega arith, e refl)
+        → Takes reached [] (b ∷ []) (cond t (b ∷ []) []) (cond t (inHeader (b ∷ []), none) (hunting, some (noise (b ∷ []))))
+    go true e = goes-on reached [] (b ∷ []) (inHeader (b ∷ [])) refl (bytes-one b y, omega arith, omega arith, e refl)
     go false e = closes reached [] (b ∷ []) [] (noise (b ∷ [])) refl (omega arith) tt
-takes (head g) b y h =
+takes (inHeader g) b y h =
     let first = List·getD-append g (b ∷ []) 0 0 (omega (arith, h .1)) ∙ h .3 in
     by-eqb (Next g (g ++ (b ∷ []))) (length g) 5
     (λ e. enter-takes g (g ++ (b ∷ [])) (simp length-append (omega arith)) (bytes-more g b (h .0) y) first)
-    (λ n. goes-on reached g _ (head (g ++ (b ∷ []))) refl
+    (λ n. goes-on reached g _ (inHeader (g ++ (b ∷ []))) refl
     (bytes-more g b (h .0) y, simp length-append (omega arith), simp length-append (omega arith), first))
-takes (tail k g) b y h =
+takes (inBody k g) b y h =
     by-eqb (Next g (g ++ (b ∷ []))) (length g) (7 + k)
     (λ e. finish-takes k g (g ++ (b ∷ [])) (h .address) (h .rest ++ (b ∷ [])) more (simp length-append (omega (arith, long))) (h .low) (h .allowed)
     (bytes-more (h .rest) b (h .bytes) y))
-    (λ n. goes-on reached g _ (tail k (g ++ (b ∷ []))) refl
+    (λ n. goes-on reached g _ (inBody k (g ++ (b ∷ []))) refl
     (record {
       address = h .address;
       rest = h .rest ++ (b ∷ []);
