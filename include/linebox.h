@@ -56,7 +56,8 @@ enum {
  * first, or -LINEBOX_OUTPUT_SHORT. `out` of LINEBOX_.._LONGEST bytes is never too short.
  */
 
-/* The longest frame of each link, in wire bytes: some message takes as many. LINEBOX_LONGEST is enough for every link. */
+/* The longest frame of each link, in wire bytes: some message takes as many. LINEBOX_LONGEST is enough on every link, and the
+ * bound that is proved; the others are added up from the rules and tried. */
 #define LINEBOX_PCS_LONGEST 1182       /* two marks, 8 of header, 1,171 that carry 1,024 of data, the sum */
 #define LINEBOX_MDU_LONGEST 1033       /* 6 of header, the body, the CRC of 2 */
 #define LINEBOX_DLE_LONGEST 519        /* two marks of 2; sequence, node and data doubled, 514; the length, 255, is not */

@@ -30,7 +30,7 @@ ReceiveGives = Refusals.ReceiveGives link streamNumbers
 abbrev pub StoresGathered : Type 0
 StoresGathered = Places.StoresGathered link (λ g b. g) (λ m. [])
 
--- the longest frame has 2,066 bytes on the wire
+-- no frame has more than 2,066 bytes on the wire
 abbrev pub FrameBound : Type 0
 FrameBound = (m : Message) → ok m ≡ true → length (frame m) ≤ 2066
 

@@ -177,10 +177,31 @@ module _ (L : Link) (laws : Lawful L) where
   counts-last c a (b ∷ bs) y r = counts-last (stepOn L c b .0) (step (L .onByte) a b .0) bs (λ i. y (suc i)) (alike c a b (y 0) (r .stands) .1)
 
   -- one call
-  follows : (c : Lent L) (a : Config (L .Phase)) (bs : List ℕ) → Bytes bs → Counts c a → Follows Counts (called L c bs) (feed (step (L .onByte)) a bs)
+  pub follows : (c : Lent L) (a : Config (L .Phase)) (bs : List ℕ) → Bytes bs → Counts c a → Follows Counts (called L c bs) (feed (step (L .onByte)) a bs)
   follows c a bs y r =
       rw (r .stands .known, le-leb (L .size) (length (c .1)) (r .stands .room))
       (feed-follows (stepOn L) view (step (L .onByte)) Counts (λ _. refl) view-some (λ c a b y r. alike c a b y (r .stands)) c a bs y r)
+
+  -- the store keeps its length
+  step-length : (c : Lent L) (a : Config (L .Phase)) (b : ℕ) → b < 256 → Counts c a → length (stepOn L c b .0 .1) ≡ length (c .1)
+  step-length c a b y r =
+      subst (λ (p : L .Phase). length (over (L .front p b) (c .1)) ≡ length (c .1)) (sym (r .stands .phase))
+      (over-length (L .front (a .phase) b) (c .1) (omega (arith, laws .takes (a .phase) b y (r .stands .good) .fits, r .stands .room)))
+
+  feed-length : (c : Lent L) (a : Config (L .Phase)) (bs : List ℕ) → Bytes bs → Counts c a → length (feed (stepOn L) c bs .after .1) ≡ length (c .1)
+  feed-length c a [] y r = refl
+  feed-length c a (b ∷ bs) y r =
+      go (stepOn L c b .1) (step-length c a b (y 0) r)
+      (feed-length (stepOn L c b .0) (step (L .onByte) a b .0) bs (λ i. y (suc i)) (alike c a b (y 0) (r .stands) .1))
+    where
+      go : (o : Option (Event (L .Message))) → length (stepOn L c b .0 .1) ≡ length (c .1)
+          → length (feed (stepOn L) (stepOn L c b .0) bs .after .1) ≡ length (stepOn L c b .0 .1)
+          → length (stop (stepOn L c b .0) o (feed (stepOn L) (stepOn L c b .0) bs) .after .1) ≡ length (c .1)
+      go none h k = k ∙ h
+      go (some e) h k = h
+
+  pub called-length : (c : Lent L) (a : Config (L .Phase)) (bs : List ℕ) → Bytes bs → Counts c a → length (called L c bs .after .1) ≡ length (c .1)
+  called-length c a bs y r = rw (r .stands .known, le-leb (L .size) (length (c .1)) (r .stands .room)) (feed-length c a bs y r)
 
   -- the same of at least a byte, where `open` holds anything at first
   follows-from : (c : Lent L) (a : Config (L .Phase)) (bs : List ℕ) → 0 < length bs → Bytes bs → Stands c a → Follows Counts (called L c bs) (feed (step (L .onByte)) a bs)
@@ -222,7 +243,7 @@ module _ (L : Link) (laws : Lawful L) where
       → L .held (feed (step (L .onByte)) (at (L .hunting) 0) bs .after .phase) ≡ []
   last-closed bs m y e = ap (L .held) (closes (L .hunting) 0 bs m y (laws .reached .good-first) e) ∙ laws .reached .held-first
 
-  counts-fresh : (store : List ℕ) → L .size ≤ length store → Counts (L .fresh, store) (at (L .hunting) 0)
+  pub counts-fresh : (store : List ℕ) → L .size ≤ length store → Counts (L .fresh, store) (at (L .hunting) 0)
   counts-fresh store room = counts-of (L .hunting) 0 (L .fresh) store (laws .fresh-first) (laws .reached .good-first) (rw (laws .reached .gathered-first)) room
 
   -- a call with a fresh state is a call by the rules, also as its caller has it

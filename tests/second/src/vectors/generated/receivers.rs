@@ -37,9 +37,11 @@ fn count32(random: &mut Xorshift) -> u32 {
     }
 }
 
-/// What `open` and `noise` hold never matters to the rules.
-fn counts_changed(random: &mut Xorshift, state: State) -> State {
-    State { open: count32(random), noise: count32(random), ..state }
+/// Other numbers where they never give 12: in `open` and `noise`, and in MDU's `length` below six bytes.
+fn counts_changed(random: &mut Xorshift, wire: Wire, state: State) -> State {
+    let is_free = wire == Wire::Mdu && state.count < 6 && random.once_in(2);
+    let length = if is_free { random.pick(&[1, 7, 1025, 1026, 9_999_999_999]) } else { state.length };
+    State { open: count32(random), noise: count32(random), length, ..state }
 }
 
 /// Any numbers at all, most of them at the edges of what is known.
@@ -60,7 +62,8 @@ fn any_state<L: Link>(random: &mut Xorshift, wire: Wire) -> State {
         1 => 0,
         _ => (count + random.below(4) as u64).saturating_sub(9),
     };
-    counts_changed(random, State { mode, count, length: if wire == Wire::Mdu { length } else { 0 }, ..State::default() })
+    let length = if wire == Wire::Mdu { length } else { 0 };
+    counts_changed(random, wire, State { mode, count, length, ..State::default() })
 }
 
 /// The gathered bytes of a frame, now and then damaged.
@@ -113,11 +116,12 @@ fn middle<L: Link>(random: &mut Xorshift, wire: Wire) -> (State, Vec<u8>, Vec<u8
         _ => 0,
     };
     let length = if wire == Wire::Mdu && random.once_in(6) { stated + random.below(3) as u64 } else { stated };
-    (counts_changed(random, State { mode, count: count as u64, length, ..State::default() }), store, rest)
+    let state = State { mode, count: count as u64, length, ..State::default() };
+    (counts_changed(random, wire, state), store, rest)
 }
 
 /// A stream that calls have read up to somewhere, and what follows.
-fn reached<L: Link>(random: &mut Xorshift, stream: &[u8]) -> (State, Vec<u8>, Vec<u8>) {
+fn reached<L: Link>(random: &mut Xorshift, wire: Wire, stream: &[u8]) -> (State, Vec<u8>, Vec<u8>) {
     let at = random.below(stream.len() + 1);
     let length = L::SIZE + random.pick(&[0, 0, 0, 1, 77]);
     let mut store = gen::contents(random, length);
@@ -128,7 +132,7 @@ fn reached<L: Link>(random: &mut Xorshift, stream: &[u8]) -> (State, Vec<u8>, Ve
         read += received.used;
     }
     if random.once_in(3) {
-        state = counts_changed(random, state);
+        state = counts_changed(random, wire, state);
     }
     if random.once_in(12) {
         let shorter = random.below(store.len());
@@ -157,9 +161,9 @@ fn piece_length(random: &mut Xorshift, most: usize) -> usize {
 }
 
 /// Between two calls: other counts, or a store with another byte or another length.
-fn meddle(random: &mut Xorshift, link: &mut Section) {
+fn meddle(random: &mut Xorshift, wire: Wire, link: &mut Section) {
     if random.once_in(2) {
-        let state = counts_changed(random, link.state);
+        let state = counts_changed(random, wire, link.state);
         link.set(state);
         return;
     }
@@ -179,7 +183,7 @@ fn meddle(random: &mut Xorshift, link: &mut Section) {
 
 /// Calls with piece after piece. What lies behind an event goes to the next call, or
 /// is lost with its piece; 12 and 1 end the sequence.
-fn play<L: Link>(random: &mut Xorshift, link: &mut Section, stream: &[u8]) {
+fn play<L: Link>(random: &mut Xorshift, wire: Wire, link: &mut Section, stream: &[u8]) {
     let mut rest = stream;
     for _ in 0..24 {
         let length = piece_length(random, rest.len());
@@ -193,7 +197,7 @@ fn play<L: Link>(random: &mut Xorshift, link: &mut Section, stream: &[u8]) {
             link.content();
         }
         if random.once_in(16) && !link.store.is_empty() {
-            meddle(random, link);
+            meddle(random, wire, link);
         }
     }
     link.content();
@@ -235,11 +239,11 @@ pub fn sequence<L: Link>(random: &mut Xorshift, wire: Wire, link: &mut Section) 
         0..=2 => link.fresh(length),
         3 => {
             link.fresh(length);
-            let state = counts_changed(random, State::default());
+            let state = counts_changed(random, wire, State::default());
             link.set(state);
         }
         4..=6 => {
-            let (state, store, rest) = reached::<L>(random, &stream);
+            let (state, store, rest) = reached::<L>(random, wire, &stream);
             link.hold(store);
             link.set(state);
             stream = rest;
@@ -256,7 +260,7 @@ pub fn sequence<L: Link>(random: &mut Xorshift, wire: Wire, link: &mut Section) 
             link.set(state);
         }
     }
-    play::<L>(random, link, &stream);
+    play::<L>(random, wire, link, &stream);
     part::<L>(random, wire, link);
 }
 
@@ -296,10 +300,10 @@ mod tests {
         let mut random = Xorshift::new(6);
         for _ in 0..300 {
             let stream = stream_of(&mut random, Wire::Dle);
-            let (state, _, _) = reached::<Dle>(&mut random, &stream);
+            let (state, _, _) = reached::<Dle>(&mut random, Wire::Dle, &stream);
             assert!(!Dle::odd(state));
             let stream = stream_of(&mut random, Wire::Mdu);
-            let (state, _, _) = reached::<Mdu>(&mut random, &stream);
+            let (state, _, _) = reached::<Mdu>(&mut random, Wire::Mdu, &stream);
             assert!(!Mdu::odd(state));
         }
     }
