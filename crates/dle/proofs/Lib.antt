@@ -3,6 +3,7 @@
 -- `Steps` and `Passing` for the receiver's.
 pub mod Passed
 pub mod Body
+pub mod Typed
 pub mod Bytes
 pub mod OnByte
 pub mod Readback

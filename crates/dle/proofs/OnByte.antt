@@ -18,6 +18,7 @@ use Rattle.escape.proofs.Dle.{dle-lawful}
 use Rattle.dle.specs.Frame.{Message, ok, body, enclose}
 use Rattle.dle.specs.Rules.{Phase, hunting, half, inside, size, gathered, held, faultOf, messageIn, judge, gather, act, onByte}
 use Rattle.dle.specs.Contract.{link}
+use Rattle.dle.proofs.Typed.{typed}
 use Rattle.dle.proofs.Passed.{Passed, passed}
 use Rattle.dle.proofs.Body.{body-in, length-ok, message-back}
 
@@ -44,10 +45,10 @@ abbrev Next : List ℕ → List ℕ → Phase × Option (Segment Message) → Ty
 Next g wire r = Takes reached g wire (gathered (r .0)) r
 
 -- the end of a frame: an accepted message has the gathered bytes as its body
-abbrev Judged : List ℕ → Message → Type 0
+abbrev pub Judged : List ℕ → Message → Type 0
 Judged g m = (body m ≡ g) × (length g ≤ size → ok m ≡ true)
 
-judge-ends : (g wire : List ℕ) → Ends (Judged g) wire (judge g wire)
+pub judge-ends : (g wire : List ℕ) → Ends (Judged g) wire (judge g wire)
 judge-ends g wire =
     by-eqb (Ends (Judged g) wire) (faultOf g) 0 (λ z. let p = passed g z in (body-in g p, may p)) (λ _. refl)
   where
@@ -66,6 +67,7 @@ judge-takes g wire h e =
     (λ m t. closes reached g wire [] (acceptedFrame m) (ap enclose (t .0) ∙ e) (omega arith)
     (record {
       may = t .1 h;
+      typed = typed m;
       read = λ store front. message-back m store (t .1 h) (rw (t .0) front);
       hunts = refl;
     }))

@@ -4,6 +4,7 @@
 pub mod Hidden
 pub mod Passed
 pub mod Judge
+pub mod Typed
 pub mod OnByte
 pub mod Readback
 pub mod Lawful

@@ -23,6 +23,7 @@ use Rattle.runs.proofs.Each.{each-nil}
 use Rattle.expansion.proofs.Hidden.{Meant, meant}
 use Rattle.expansion.proofs.Passed.{passed}
 use Rattle.expansion.proofs.Judge.{content, content-in, ok-in}
+use Rattle.expansion.proofs.Typed.{typed}
 
 -- what is gathered are bytes, and no more than the store holds
 abbrev pub Good : Phase → Type 0
@@ -56,10 +57,10 @@ held-open : held (inside false []) ≡ 0xFD ∷ []
 held-open = ap (λ (x : List ℕ). 0xFD ∷ (x ++ [])) (each-nil hideByte)
 
 -- the end of a frame: an accepted message has the gathered bytes as its content
-abbrev Judged : List ℕ → Message → Type 0
+abbrev pub Judged : List ℕ → Message → Type 0
 Judged g m = Good (inside false g) → (content m ≡ g) × (ok m ≡ true)
 
-judge-ends : (g wire : List ℕ) → Ends (Judged g) wire (judge g wire)
+pub judge-ends : (g wire : List ℕ) → Ends (Judged g) wire (judge g wire)
 judge-ends g wire =
     by-eqb (Ends (Judged g) wire) (faultOf g) 0
     (λ z h. let p = passed g z in (content-in g (p .long) (h .0) (p .checked), ok-in g (p .long) (h .1) (p .fields))) (λ _. refl)
@@ -80,6 +81,7 @@ judge-takes g wire h e =
     (λ m t. closes reached g wire [] (acceptedFrame m) (ap enclose (t h .0) ∙ e) (omega arith)
     (record {
       may = t h .1;
+      typed = λ _. typed m (subst Bytes (sym (t h .0)) (h .0));
       read = λ store stands. read-back m store (subst (λ (x : List ℕ). take (length x) store ≡ x) (sym (t h .0)) stands);
       hunts = refl;
     }))

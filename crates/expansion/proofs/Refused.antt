@@ -12,11 +12,11 @@ use Rattle.runs.specs.Runs.{Bytes, over}
 use Rattle.runs.proofs.Bytes.{bytes-left, bytes-right, bytes-append, bytes-take}
 use Rattle.runs.proofs.Cases.{by-test, by-eqb, by-ltb}
 use Rattle.framing.specs.Receiver.{Fed, feed, emit, last, join}
-use Rattle.framing.specs.Segment.{Segment, refusedFrame, Event, refusal, Config, step, eventOf, wires}
+use Rattle.framing.specs.Segment.{Segment, refusedFrame, Event, refusal, eventOf, wires}
 use Rattle.framing.specs.Link.{Lent, stepOn, callOn}
 use Rattle.framing.specs.Claims.{segments}
 use Rattle.framing.proofs.Feed.{last-byte, used-some, used-le, events-append, last-append}
-use Rattle.framing.proofs.Segments.{phase-last}
+use Rattle.framing.proofs.Segments.{Config, step, phase-last}
 use Rattle.framing.proofs.Lawful.{at, Counts, counts-last, driven, accounted}
 use Rattle.framing.specs.declared.State.{State}
 use Rattle.escape.specs.Code.{Meaning, byte, waits, start, end, wrong, meaning, hide}

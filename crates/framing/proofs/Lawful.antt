@@ -10,17 +10,17 @@ use lib.ListN.{length, take, length-append, length-drop}
 use lib.Seq.{sets}
 use borrow.Author.Tests.{le-leb}
 use Rattle.runs.specs.Runs.{Bytes, over}
-use Rattle.runs.proofs.Bytes.{bytes-append}
+use Rattle.runs.proofs.Bytes.{bytes-append, bytes-left, bytes-right}
 use Rattle.runs.proofs.Run.{part-sets, sets-over}
 use Rattle.framing.specs.Answer.{Outcome, done}
 use Rattle.framing.specs.Receiver.{Fed, stop, feed, events, last, drive, join}
-use Rattle.framing.specs.Segment.{Segment, noise, refusedFrame, acceptedFrame, Event, message, refusal, Config, step, eventOf, noiseAfter, wires}
+use Rattle.framing.specs.Segment.{Segment, noise, refusedFrame, acceptedFrame, Event, message, refusal, eventOf, noiseAfter, wires}
 use Rattle.framing.specs.Writer.{writes}
 use Rattle.framing.specs.Link.{Link, Lent, stepOn, callOn, told, heardIn, called}
 use Rattle.framing.specs.Claims.{segments, openAt, WritesFrame, ReadsBack, Canonical, CutAnywhere, Accounted}
 use Rattle.framing.proofs.Stored.{stored-done}
 use Rattle.framing.proofs.Cutting.{Follows, cutting, feed-from, feed-follows}
-use Rattle.framing.proofs.Segments.{wireOpt, Accepts, accepts-map, AllAccept, accept-at, wires-append, partition, all-accepted, phase-last, heard-events, noise-last}
+use Rattle.framing.proofs.Segments.{Config, step, wireOpt, Accepts, accepts-map, AllAccept, accept-at, wires-append, partition, all-accepted, phase-last, heard-events, noise-last}
 use Rattle.framing.proofs.Byte.{Reached, Taken, Takes}
 
 abbrev pub at : {P : Type 0} → P → ℕ → Config P
@@ -79,19 +79,36 @@ module _ (L : Link) (laws : Lawful L) where
       partition (L .frame) (L .held) (L .onByte) Good good-next (λ p b y g. laws .takes p b y g .holds) (L .hunting) bs y (laws .reached .good-first)
       ∙ ap (λ (w : List ℕ). w ++ bs) (laws .reached .held-first)
 
-  pub all-sendable : (bs : List ℕ) → Bytes bs → AllAccept (λ m. L .ok m ≡ true) (segments L bs)
-  all-sendable bs y =
-      all-accepted (L .frame) (L .held) (L .onByte) Good good-next (λ m. L .ok m ≡ true) (λ p b y g. accepted-is (λ m. L .ok m ≡ true) p b y g (λ m t. t .may))
+  -- what is known of an accepted message: it may be sent, and its numbers fit their types where its frame is of bytes
+  abbrev pub Writable : L .Message → Type 0
+  Writable m = (L .ok m ≡ true) × (Bytes (L .frame m) → L .Typed m)
+
+  pub all-writable : (bs : List ℕ) → Bytes bs → AllAccept Writable (segments L bs)
+  all-writable bs y =
+      all-accepted (L .frame) (L .held) (L .onByte) Good good-next Writable (λ p b y g. accepted-is Writable p b y g (λ m t. (t .may, t .typed)))
       (L .hunting) bs y (laws .reached .good-first)
 
   pub canonical : Canonical L
-  canonical bs y before after m e = (
-    accept-at (λ m. L .ok m ≡ true) before after m (subst (λ (ss : List (Segment (L .Message))). AllAccept (λ m. L .ok m ≡ true) ss) e (all-sendable bs y)),
-    sym (accounted bs y)
-        ∙ ap (λ (ss : List (Segment (L .Message))). wires (L .frame) ss ++ openAt L bs) e
-        ∙ ap (λ (w : List ℕ). w ++ openAt L bs)
-        (wires-append (L .frame) before (acceptedFrame m ∷ after) ∙ sym (append-assoc (wires (L .frame) before) (L .frame m) (wires (L .frame) after))),
-  )
+  canonical bs y before after m e = (known .0, known .1 (bytes-right earlier (L .frame m) (bytes-left (earlier ++ L .frame m) later whole-bytes)), whole)
+    where
+      earlier : List ℕ
+      earlier = wires (L .frame) before
+
+      later : List ℕ
+      later = wires (L .frame) after ++ openAt L bs
+
+      known : Writable m
+      known = accept-at Writable before after m (subst (λ (ss : List (Segment (L .Message))). AllAccept Writable ss) e (all-writable bs y))
+
+      whole : bs ≡ earlier ++ L .frame m ++ wires (L .frame) after ++ openAt L bs
+      whole =
+          sym (accounted bs y)
+          ∙ ap (λ (ss : List (Segment (L .Message))). wires (L .frame) ss ++ openAt L bs) e
+          ∙ ap (λ (w : List ℕ). w ++ openAt L bs)
+          (wires-append (L .frame) before (acceptedFrame m ∷ after) ∙ sym (append-assoc earlier (L .frame m) (wires (L .frame) after)))
+
+      whole-bytes : Bytes ((earlier ++ L .frame m) ++ later)
+      whole-bytes = subst Bytes (whole ∙ append-assoc (earlier ++ L .frame m) (wires (L .frame) after) (openAt L bs)) y
 
   -- what a caller makes of an event, through what it is told
   abbrev view : Lent L → Option (Event (L .Message)) → Option (Event (L .Message))
@@ -160,10 +177,31 @@ module _ (L : Link) (laws : Lawful L) where
   counts-last c a (b ∷ bs) y r = counts-last (stepOn L c b .0) (step (L .onByte) a b .0) bs (λ i. y (suc i)) (alike c a b (y 0) (r .stands) .1)
 
   -- one call
-  follows : (c : Lent L) (a : Config (L .Phase)) (bs : List ℕ) → Bytes bs → Counts c a → Follows Counts (called L c bs) (feed (step (L .onByte)) a bs)
+  pub follows : (c : Lent L) (a : Config (L .Phase)) (bs : List ℕ) → Bytes bs → Counts c a → Follows Counts (called L c bs) (feed (step (L .onByte)) a bs)
   follows c a bs y r =
       rw (r .stands .known, le-leb (L .size) (length (c .1)) (r .stands .room))
       (feed-follows (stepOn L) view (step (L .onByte)) Counts (λ _. refl) view-some (λ c a b y r. alike c a b y (r .stands)) c a bs y r)
+
+  -- the store keeps its length
+  step-length : (c : Lent L) (a : Config (L .Phase)) (b : ℕ) → b < 256 → Counts c a → length (stepOn L c b .0 .1) ≡ length (c .1)
+  step-length c a b y r =
+      subst (λ (p : L .Phase). length (over (L .front p b) (c .1)) ≡ length (c .1)) (sym (r .stands .phase))
+      (over-length (L .front (a .phase) b) (c .1) (omega (arith, laws .takes (a .phase) b y (r .stands .good) .fits, r .stands .room)))
+
+  feed-length : (c : Lent L) (a : Config (L .Phase)) (bs : List ℕ) → Bytes bs → Counts c a → length (feed (stepOn L) c bs .after .1) ≡ length (c .1)
+  feed-length c a [] y r = refl
+  feed-length c a (b ∷ bs) y r =
+      go (stepOn L c b .1) (step-length c a b (y 0) r)
+      (feed-length (stepOn L c b .0) (step (L .onByte) a b .0) bs (λ i. y (suc i)) (alike c a b (y 0) (r .stands) .1))
+    where
+      go : (o : Option (Event (L .Message))) → length (stepOn L c b .0 .1) ≡ length (c .1)
+          → length (feed (stepOn L) (stepOn L c b .0) bs .after .1) ≡ length (stepOn L c b .0 .1)
+          → length (stop (stepOn L c b .0) o (feed (stepOn L) (stepOn L c b .0) bs) .after .1) ≡ length (c .1)
+      go none h k = k ∙ h
+      go (some e) h k = h
+
+  pub called-length : (c : Lent L) (a : Config (L .Phase)) (bs : List ℕ) → Bytes bs → Counts c a → length (called L c bs .after .1) ≡ length (c .1)
+  called-length c a bs y r = rw (r .stands .known, le-leb (L .size) (length (c .1)) (r .stands .room)) (feed-length c a bs y r)
 
   -- the same of at least a byte, where `open` holds anything at first
   follows-from : (c : Lent L) (a : Config (L .Phase)) (bs : List ℕ) → 0 < length bs → Bytes bs → Stands c a → Follows Counts (called L c bs) (feed (step (L .onByte)) a bs)
@@ -205,7 +243,7 @@ module _ (L : Link) (laws : Lawful L) where
       → L .held (feed (step (L .onByte)) (at (L .hunting) 0) bs .after .phase) ≡ []
   last-closed bs m y e = ap (L .held) (closes (L .hunting) 0 bs m y (laws .reached .good-first) e) ∙ laws .reached .held-first
 
-  counts-fresh : (store : List ℕ) → L .size ≤ length store → Counts (L .fresh, store) (at (L .hunting) 0)
+  pub counts-fresh : (store : List ℕ) → L .size ≤ length store → Counts (L .fresh, store) (at (L .hunting) 0)
   counts-fresh store room = counts-of (L .hunting) 0 (L .fresh) store (laws .fresh-first) (laws .reached .good-first) (rw (laws .reached .gathered-first)) room
 
   -- a call with a fresh state is a call by the rules, also as its caller has it

@@ -5,6 +5,7 @@ pub mod Entered
 pub mod OnByte
 pub mod Readback
 pub mod Known
+pub mod Typed
 pub mod Lawful
 pub mod Theorems
 pub mod Store

@@ -19,6 +19,7 @@ use Rattle.mdu.specs.Frame.{Message, lengthOk, header, trailer, frame}
 use Rattle.mdu.specs.Rules.{Phase, hunting, inHeader, inBody, size, gathered, held, stated, sentCheck, headerFault, enter, finish, onByte}
 use Rattle.mdu.specs.Contract.{front, numbersOf, messageOf}
 use Rattle.mdu.proofs.Known.{length-most}
+use Rattle.mdu.proofs.Typed.{typed}
 use Rattle.mdu.proofs.Passed.{passed}
 use Rattle.mdu.proofs.Entered.{Good, reached, entered, two}
 
@@ -46,7 +47,7 @@ finish-takes k g w a e i l low allowed y =
     (by-eqb (λ (s : Segment Message). Next g whole (hunting, some s)) (sentCheck k whole) (crc16Of body)
     (λ c. let f = framed (sym c ∙ numbers) in
     closes reached g whole whole (acceptedFrame (record { address = a; body = body })) f fits
-    (record { may = rw (length-take-le k e (omega arith), allowed, le-leb 1 a low); read = λ store _. read-back _ whole store f; hunts = refl }))
+    (record { may = rw (length-take-le k e (omega arith), allowed, le-leb 1 a low); typed = typed (record { address = a; body = body }); read = λ store _. read-back _ whole store f; hunts = refl }))
     (λ _. closes reached g whole whole (refusedFrame 8 whole) refl fits tt))
   where
     whole : List ℕ

@@ -11,9 +11,9 @@ use lib.Dec.{leb}
 use borrow.Author.Tests.{leb-true, eq-eqb, ne-eqb}
 use Rattle.runs.proofs.Cases.{and-both}
 use Rattle.framing.specs.Receiver.{feed}
-use Rattle.framing.specs.Segment.{Segment, acceptedFrame, message, step}
+use Rattle.framing.specs.Segment.{Segment, acceptedFrame, message}
 use Rattle.framing.proofs.Feed.{Quiet, quiet-nil, quiet-cons, quiet-append, feed-event}
-use Rattle.framing.proofs.Segments.{step-open, step-accept}
+use Rattle.framing.proofs.Segments.{step, step-open, step-accept}
 use Rattle.framing.proofs.Lawful.{at}
 use Rattle.checksum.specs.Crc.{crc16Of}
 use Rattle.mdu.specs.Frame.{Message, lengthOk, ok, headerSum, five, header, trailer, frame}

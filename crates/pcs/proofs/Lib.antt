@@ -2,6 +2,7 @@
 -- claims need, `Theorems` the claims. Of the code: `And` has chains of tests, `Store` the store after a byte, `Judge` the end of a frame,
 -- `Written` the frame in parts, `Passing` bytes that are passed at once.
 pub mod Allowed
+pub mod Typed
 pub mod Passed
 pub mod OnByte
 pub mod Readback

@@ -8,7 +8,7 @@ use native.Mathlib.Omega.{arith}
 use lib.ListN.{length, getD, take, drop, length-append, length-take, length-drop}
 use lib.Seq.{take-suc, take-all, take-add, take-append-seam}
 use borrow.Author.Tests.{le-leb}
-use Rattle.runs.specs.Runs.{over}
+use Rattle.runs.specs.Runs.{Bytes, over}
 use Rattle.runs.proofs.Cases.{by-eqb, by-ltb}
 use Rattle.framing.specs.Segment.{Segment, refusedFrame, acceptedFrame, noiseAfter}
 use Rattle.framing.proofs.Byte.{data-stands, Reached, Takes, goes-on, restarts, closes, Ends, by-end, ends-quiet}
@@ -17,12 +17,13 @@ use Rattle.packing.specs.Packed.{packed}
 use Rattle.packing.specs.Unpacked.{unpacked}
 use Rattle.packing.proofs.Seven.{value-sent}
 use Rattle.packing.proofs.Lengths.{length-packed}
-use Rattle.packing.proofs.Laws.{packed-unpacked}
+use Rattle.packing.proofs.Laws.{packed-unpacked, bytes-unpacked}
 use Rattle.checksum.specs.Sum.{sumOf}
 use Rattle.pcs.specs.Frame.{Message, ok, body, frame}
 use Rattle.pcs.specs.Rules.{Phase, hunting, inside, size, gathered, held, stated, packedPart, faultOf, messageWith, unpack, judge, onByte}
 use Rattle.pcs.specs.Contract.{frontOf, numbersOf, messageOf, link}
 use Rattle.pcs.proofs.Allowed.{kind-same, Allowed, allowed, sendable}
+use Rattle.pcs.proofs.Typed.{typed}
 use Rattle.pcs.proofs.Passed.{Passed, passed}
 
 -- no more is gathered than the store holds
@@ -109,16 +110,16 @@ module _ (g : List ℕ) (p : Passed g) (short : length g ≤ size) (d : List ℕ
       )
 
 -- the end of a frame: an accepted message has the gathered bytes between its marks
-abbrev Judged : List ℕ → Message → Type 0
-Judged g m = length g ≤ size → (frame m ≡ 253 ∷ g ++ (254 ∷ [])) × (ok m ≡ true)
+abbrev pub Judged : List ℕ → Message → Type 0
+Judged g m = length g ≤ size → (frame m ≡ 253 ∷ g ++ (254 ∷ [])) × (ok m ≡ true) × Bytes (m .payload)
 
-judge-ends : (g w : List ℕ) → Ends (Judged g) w (judge g w)
+pub judge-ends : (g w : List ℕ) → Ends (Judged g) w (judge g w)
 judge-ends g w =
     by-eqb (Ends (Judged g) w) (faultOf g) 0 (λ z. unpack-ends (passed g z) (unpacked (packedPart g)) refl) (λ _. refl)
   where
     unpack-ends : Passed g → (o : Option (List ℕ)) → unpacked (packedPart g) ≡ o → Ends (Judged g) w (unpack g w o)
     unpack-ends p none u = refl
-    unpack-ends p (some d) u = λ h. (frame-is g p h d u, may-send g p h d u)
+    unpack-ends p (some d) u = λ h. (frame-is g p h d u, may-send g p h d u, bytes-unpacked (packedPart g) d u)
 
 pub judge-noise : (g w : List ℕ) (n : ℕ) → noiseAfter (some (judge g w)) n ≡ n
 judge-noise g w n = ends-quiet (Judged g) w (judge g w) (judge-ends g w) n
@@ -142,7 +143,7 @@ judge-takes g w h e =
     by-end (λ (s : Segment Message). Next g w (hunting, some s)) (Judged g) w (judge g w) (judge-ends g w)
     (λ n. closes reached g w [] (refusedFrame n w) refl (omega arith) tt)
     (λ m t. closes reached g w (m .payload) (acceptedFrame m) (t h .0 ∙ e) (omega (arith, sendable m (t h .1) .most))
-    (record { may = t h .1; read = λ store _. read-back m store; hunts = refl }))
+    (record { may = t h .1; typed = λ _. typed m (t h .1) (t h .2); read = λ store _. read-back m store; hunts = refl }))
 
 pub takes : (p : Phase) (b : ℕ) → length (gathered p) ≤ size → Next (gathered p) (held p ++ (b ∷ [])) (onByte p b)
 takes hunting b h =

@@ -13,9 +13,9 @@ use Rattle.runs.specs.Runs.{Bytes}
 use Rattle.runs.proofs.Bytes.{bytes-append, bytes-one, bytes-more}
 use Rattle.framing.specs.Claims.{AllOf}
 use Rattle.framing.specs.Receiver.{feed}
-use Rattle.framing.specs.Segment.{Segment, acceptedFrame, message, step}
+use Rattle.framing.specs.Segment.{Segment, acceptedFrame, message}
 use Rattle.framing.proofs.Feed.{Quiet, quiet-nil, quiet-cons, feed-event}
-use Rattle.framing.proofs.Segments.{step-open, step-accept}
+use Rattle.framing.proofs.Segments.{step, step-open, step-accept}
 use Rattle.framing.proofs.Lawful.{at}
 use Rattle.packing.specs.Seven.{sent}
 use Rattle.packing.specs.Packed.{packed}
