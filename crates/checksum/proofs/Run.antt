@@ -6,7 +6,7 @@ use native.Mathlib.Omega.{arith}
 use lib.Bits.{bitXor, xor-zero-r, xor-comm, xor-shifted}
 use lib.ListN.{length, getD, take, drop, length-drop, drop-of-length-le, take-append-drop}
 use lib.Seq.{drop-drop, length-take-le}
-use Rattle.runs.proofs.Bytes.{drop-next, bytes-take, bytes-drop}
+use Rattle.runs.proofs.Bytes.{drop-next, part-rest, bytes-take, bytes-drop}
 use Rattle.runs.specs.Runs.{Bytes}
 use Rattle.runs.specs.Number.{littleEndian}
 use Rattle.checksum.specs.Crc.{shifts, byteStep, run, crc16Of, crc32Of}
@@ -33,6 +33,10 @@ pub crc32-append : (u v : List ℕ)
 crc32-append u v =
     ap (λ (x : ℕ). bitXor x (2 ^ 32 - 1))
     (run-joined 0xEDB88320 (2 ^ 32 - 1) u v (xor-undo (run 0xEDB88320 (2 ^ 32 - 1) u) (2 ^ 32 - 1)) refl)
+
+-- a part of a run, from a place to its end
+pub run-rest : (p c : ℕ) (u : List ℕ) (at : ℕ) {r : ℕ} → r ≡ run p c (take (length u - at) (drop at u)) → r ≡ run p c (drop at u)
+run-rest p c u at e = e ∙ ap (run p c) (part-rest u at)
 
 pub bytes-start : (p s : ℕ) (u : List ℕ) → AfterBytes p s u 0 s
 bytes-start p s u = (omega arith, refl)

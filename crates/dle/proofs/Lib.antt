@@ -1,7 +1,9 @@
--- `Body` has the bodies of messages, `Bytes` that frames are bytes, `OnByte` what each byte does by the rules, `Readback` that frames read
--- back, `Lawful` that the link is lawful, `Theorems` the claims. `Written` is for the writer's functions, `Steps` and `Passing` for the
--- receiver's.
+-- `Passed` has what the tests at the end of a frame say, `Body` the bodies of messages, `Bytes` that frames are bytes, `OnByte` what each byte does
+-- by the rules, `Readback` that frames read back, `Lawful` that the link is lawful, `Theorems` the claims. `Written` is for the writer's functions,
+-- `Steps` and `Passing` for the receiver's.
+pub mod Passed
 pub mod Body
+pub mod Typed
 pub mod Bytes
 pub mod OnByte
 pub mod Readback

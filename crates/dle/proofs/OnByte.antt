@@ -1,12 +1,11 @@
 -- What a byte does by the rules.
-use Prim.Native.Nat.{ℕ, _-_, _^_, _≤_, _<_}
+use Prim.Native.Nat.{ℕ, _^_, _≤_, _<_}
 use mathlib.Core.Path.{_≡_, refl, ap, sym, _∙_}
-use mathlib.Core.Bool.{Bool, true, false, cond, _&&_}
+use mathlib.Core.Bool.{Bool, true, false, cond}
 use mathlib.Core.List.{List, [], _∷_, _++_, append-assoc, append-nil}
 use mathlib.Core.Option.{Option, some}
 use native.Mathlib.Omega.{arith}
 use lib.ListN.{length, getD, drop, length-append, length-drop}
-use lib.Dec.{leb}
 use borrow.Author.Tests.{ne-eqb}
 use Rattle.runs.proofs.Cases.{by-eqb, by-ltb}
 use Rattle.framing.specs.Segment.{Segment, refusedFrame, acceptedFrame, noiseAfter}
@@ -17,9 +16,11 @@ use Rattle.escape.specs.Dle.{dle}
 use Rattle.escape.proofs.Lawful.{hide-more, hide-short}
 use Rattle.escape.proofs.Dle.{dle-lawful}
 use Rattle.dle.specs.Frame.{Message, ok, body, enclose}
-use Rattle.dle.specs.Rules.{Phase, hunting, half, inside, size, gathered, held, judge, gather, act, onByte}
+use Rattle.dle.specs.Rules.{Phase, hunting, half, inside, size, gathered, held, faultOf, messageIn, judge, gather, act, onByte}
 use Rattle.dle.specs.Contract.{link}
-use Rattle.dle.proofs.Body.{error-body, content-body, length-ok, message-back}
+use Rattle.dle.proofs.Typed.{typed}
+use Rattle.dle.proofs.Passed.{Passed, passed}
+use Rattle.dle.proofs.Body.{body-in, length-ok, message-back}
 
 -- no more is gathered than the store holds
 abbrev pub reached : Reached link
@@ -44,21 +45,17 @@ abbrev Next : List ℕ → List ℕ → Phase × Option (Segment Message) → Ty
 Next g wire r = Takes reached g wire (gathered (r .0)) r
 
 -- the end of a frame: an accepted message has the gathered bytes as its body
-abbrev Judged : List ℕ → Message → Type 0
+abbrev pub Judged : List ℕ → Message → Type 0
 Judged g m = (body m ≡ g) × (length g ≤ size → ok m ≡ true)
 
-judge-ends : (g wire : List ℕ) → Ends (Judged g) wire (judge g wire)
+pub judge-ends : (g wire : List ℕ) → Ends (Judged g) wire (judge g wire)
 judge-ends g wire =
-    by-ltb P (length g) 4 (λ _. refl) (λ l.
-    by-eqb P (getD g 2 0) 0
-    (λ z. by-eqb P (length g) 4 (λ k. (error-body g k z, λ _. refl)) (λ _. refl))
-    (λ z. by-eqb P (getD g 2 0) (length g - 3) (λ k. (content-body g l k, may l)) (λ _. refl)))
+    by-eqb (Ends (Judged g) wire) (faultOf g) 0 (λ z. let p = passed g z in (body-in g p, may p)) (λ _. refl)
   where
-    P : Segment Message → Type 0
-    P = Ends (Judged g) wire
-
-    may : 4 ≤ length g → length g ≤ size → leb 1 (length (drop 3 g)) && leb (length (drop 3 g)) 255 ≡ true
-    may l h = length-ok (length (drop 3 g)) (simp length-drop (omega arith)) (simp length-drop (omega arith))
+    may : Passed g → length g ≤ size → ok (messageIn g) ≡ true
+    may p h =
+        by-eqb (λ (m : Message). ok m ≡ true) (getD g 2 0) 0 (λ _. refl)
+        (λ _. length-ok (length (drop 3 g)) (simp length-drop (omega (arith, p .long))) (simp length-drop (omega arith)))
 
 pub judge-noise : (g wire : List ℕ) (n : ℕ) → noiseAfter (some (judge g wire)) n ≡ n
 judge-noise g wire n = ends-quiet (Judged g) wire (judge g wire) (judge-ends g wire) n
@@ -70,6 +67,7 @@ judge-takes g wire h e =
     (λ m t. closes reached g wire [] (acceptedFrame m) (ap enclose (t .0) ∙ e) (omega arith)
     (record {
       may = t .1 h;
+      typed = typed m;
       read = λ store front. message-back m store (t .1 h) (rw (t .0) front);
       hunts = refl;
     }))

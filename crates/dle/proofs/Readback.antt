@@ -9,9 +9,9 @@ use lib.ListN.{length}
 use lib.Seq.{append-snoc}
 use borrow.Author.Tests.{lt-ltb}
 use Rattle.framing.specs.Receiver.{feed}
-use Rattle.framing.specs.Segment.{Segment, message, step}
+use Rattle.framing.specs.Segment.{Segment, message}
 use Rattle.framing.proofs.Feed.{Quiet, quiet-nil, quiet-cons, quiet-append, feed-event}
-use Rattle.framing.proofs.Segments.{step-accept}
+use Rattle.framing.proofs.Segments.{step, step-accept}
 use Rattle.framing.proofs.Lawful.{at}
 use Rattle.escape.specs.Code.{byte, waits, meaning, hide}
 use Rattle.escape.specs.Dle.{dle}

@@ -1,11 +1,12 @@
 -- The rules of the DLE receiver: what each byte does, over the gathered bytes as a list, with no store.
 use Prim.Native.Nat.{ℕ, _-_}
-use mathlib.Core.Bool.{Bool, true, false, cond}
+use mathlib.Core.Bool.{Bool, true, false, cond, not}
 use mathlib.Core.List.{List, [], _∷_, _++_}
 use mathlib.Core.Option.{Option, none, some}
 use lib.ListN.{length, getD, drop}
 use lib.Dec.{ltb, eqb}
 use Rattle.framing.specs.Segment.{Segment, noise, refusedFrame, acceptedFrame}
+use Rattle.framing.specs.Tests.{firstOf}
 use Rattle.escape.specs.Code.{Meaning, byte, waits, start, end, wrong, meaning, hide}
 use Rattle.escape.specs.Dle.{dle}
 use Rattle.dle.specs.Frame.{Message, content, error}
@@ -31,13 +32,29 @@ held hunting = []
 held half = 0x10 ∷ []
 held (inside w g) = 0x10 ∷ 0x02 ∷ hide dle g ++ cond w (0x10 ∷ []) []
 
--- the end of a frame of these wire bytes: 6 below the least size, then 10 where the stated length is wrong
+-- how many bytes stand behind a stated length: 0 marks an error message with its one byte
+abbrev pub bytesBehind : ℕ → ℕ
+bytesBehind stated = cond (eqb stated 0) 1 stated
+
+-- so many are there
+abbrev pub lengthRight : List ℕ → Bool
+lengthRight g = eqb (bytesBehind (getD g 2 0)) (length g - 3)
+
+-- the tests at the end of a frame, in their order
+unfoldable pub faultOf : List ℕ → ℕ
+faultOf g =
+    firstOf
+    ((ltb (length g) 4, 6)
+    ∷ (not (lengthRight g), 10)
+    ∷ [])
+
+-- the message of gathered bytes
+abbrev pub messageIn : List ℕ → Message
+messageIn g = cond (eqb (getD g 2 0) 0) (error (getD g 0 0) (getD g 1 0) (getD g 3 0)) (content (getD g 0 0) (getD g 1 0) (drop 3 g))
+
+-- the end of a frame of these wire bytes
 abbrev pub judge : List ℕ → List ℕ → Segment Message
-judge g wire =
-    cond (ltb (length g) 4) (refusedFrame 6 wire)
-    (cond (eqb (getD g 2 0) 0)
-    (cond (eqb (length g) 4) (acceptedFrame (error (getD g 0 0) (getD g 1 0) (getD g 3 0))) (refusedFrame 10 wire))
-    (cond (eqb (getD g 2 0) (length g - 3)) (acceptedFrame (content (getD g 0 0) (getD g 1 0) (drop 3 g))) (refusedFrame 10 wire)))
+judge g wire = cond (eqb (faultOf g) 0) (acceptedFrame (messageIn g)) (refusedFrame (faultOf g) wire)
 
 -- one more byte is gathered, or 5 where it is one too many
 abbrev pub gather : List ℕ → ℕ → List ℕ → Phase × Option (Segment Message)

@@ -19,8 +19,8 @@ ghost use Rattle.framing.specs.Segment.{eventOf};
 ghost use Rattle.framing.specs.Link.{isEvent, told, stepOn, reported, receives};
 ghost use Rattle.escape.specs.Code.{meaningOf};
 ghost use Rattle.dle.specs.Frame.{content, error, ok, enclose, frame};
-ghost use Rattle.dle.specs.Rules.{hunting, half, size, gathered, judge, gather, act, onByte};
-ghost use Rattle.dle.specs.Contract.{phaseOf, dataOf, link, toldOf, receivedOf};
+ghost use Rattle.dle.specs.Rules.{hunting, half, size, gathered, bytesBehind, faultOf, messageIn, judge, gather, act, onByte};
+ghost use Rattle.dle.specs.Contract.{phaseOf, numbersOf, dataOf, link, toldOf, receivedOf};
 ghost use Rattle.dle.specs.Steps.{ByRules, Open, Passes};
 
 // The least store of a receiver: a header of 3 bytes and data of at most 255.
@@ -188,44 +188,64 @@ fn gather_byte(state: State, store: &mut [u8], byte: u8) -> Stepped
 }
 
 // A length byte as a number of bytes.
-fn wide(length: u8) -> usize
-    ensures { λ r. ⌜ r ≡ length ⌝ }
+fn wide(stated: u8) -> usize
+    ensures { λ r. ⌜ r ≡ stated ⌝ }
 {
-    length as usize
+    stated as usize
 }
 
-// The end of a frame with so many gathered bytes.
-fn judge_frame(store: &[u8], count: usize) -> Event
-    requires { ⌜ (count ≤ size) × (size ≤ length (now store)) ⌝ }
-    ensures { λ r. ⌜ ((wire : List ℕ) → toldOf r ≡ told link (eventOf (some (judge (take count (now (store .entry))) wire)))) ⌝ }
+// How many bytes stand behind a stated length: 0 marks an error message with its one byte.
+fn bytes_behind(stated: u8) -> usize
+    ensures { λ r. ⌜ r ≡ bytesBehind stated ⌝ }
 {
+    if stated == 0 { 1 } else { wide(stated) }
+}
+
+// The number of the first test that a frame's gathered bytes fail, 0 where they pass all.
+fn fault_of(gathered: &[u8]) -> u8
+    ensures { λ r. ⌜ r ≡ faultOf (now (gathered .entry)) ⌝ }
+{
+    let count = gathered.len();
     if count < 4 {
-        return Event::Refused(refusal::TOO_SHORT);
+        return refusal::TOO_SHORT;
     }
-    let stated = store[2];
+    if bytes_behind(gathered[2]) != count - 3 {
+        return refusal::WRONG_LENGTH;
+    }
+    0
+}
+
+// The message of a frame's gathered bytes.
+fn message_of(gathered: &[u8]) -> Message
+    requires { ⌜ (4 ≤ length (now gathered)) × (faultOf (now gathered) ≡ 0) ⌝ }
+    ensures { λ r. ⌜ r ≡ numbersOf (messageIn (now (gathered .entry))) ⌝ }
+{
+    let stated = gathered[2];
     if stated == 0 {
-        if count == 4 {
-            Event::Accepted(Message {
-                sequence: store[0],
-                node: store[1],
-                length: 0,
-                error: store[3],
-            })
-        } else {
-            Event::Refused(refusal::WRONG_LENGTH)
-        }
-    } else {
-        if wide(stated) == count - 3 {
-            Event::Accepted(Message {
-                sequence: store[0],
-                node: store[1],
-                length: stated,
-                error: 0,
-            })
-        } else {
-            Event::Refused(refusal::WRONG_LENGTH)
-        }
+        return Message {
+            sequence: gathered[0],
+            length: 0,
+            node: gathered[1],
+            error: gathered[3],
+        };
     }
+    Message {
+        sequence: gathered[0],
+        length: stated,
+        node: gathered[1],
+        error: 0,
+    }
+}
+
+// The end of a frame.
+fn judge_frame(gathered: &[u8]) -> Event
+    ensures { λ r. ⌜ ((wire : List ℕ) → toldOf r ≡ told link (eventOf (some (judge (now (gathered .entry)) wire)))) ⌝ }
+{
+    let fault = fault_of(gathered);
+    if fault != 0 {
+        return Event::Refused(fault);
+    }
+    Event::Accepted(message_of(gathered))
 }
 
 // A wire byte of an open frame, by its meaning.
@@ -245,7 +265,7 @@ fn act_on(state: State, store: &mut [u8], meaning: Meaning) -> Stepped
             state: framing::reopen(state, 2, 0, 2),
         },
         Meaning::End => {
-            let event = judge_frame(store, state.count);
+            let event = judge_frame(&store[..state.count]);
             Stepped {
                 event: event,
                 state: framing::close(state),

@@ -8,9 +8,9 @@ use native.Mathlib.Omega.{arith}
 use lib.ListN.{length, length-append}
 use lib.Seq.{append-snoc}
 use Rattle.runs.specs.Runs.{each}
-use Rattle.framing.specs.Segment.{Segment, step}
+use Rattle.framing.specs.Segment.{Segment}
 use Rattle.framing.proofs.Feed.{Quiet, quiet-nil, quiet-cons, quiet-append}
-use Rattle.framing.proofs.Segments.{step-open}
+use Rattle.framing.proofs.Segments.{step, step-open}
 use Rattle.framing.proofs.Lawful.{at}
 use Rattle.escape.specs.Code.{Code, byte, waits, meaning, hide}
 use Rattle.escape.specs.Claims.{Coded, alone, pair, Lawful}

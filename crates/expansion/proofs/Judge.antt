@@ -7,7 +7,7 @@ use native.Mathlib.Omega.{arith}
 use lib.Dec.{leb}
 use lib.ListN.{length, getD, take, drop, length-append, length-drop, take-append-drop}
 use lib.Seq.{take-at, drop-at, take-add, length-take-le}
-use borrow.Author.Tests.{le-leb, le-ltb, eq-eqb, eqb-true, leb-true}
+use borrow.Author.Tests.{le-leb, eq-eqb, eqb-true, leb-true}
 use Rattle.runs.specs.Runs.{Bytes}
 use Rattle.runs.specs.Number.{littleEndian, bytesOf}
 use Rattle.runs.proofs.Bytes.{bytes-append, bytes-drop}
@@ -17,7 +17,8 @@ use Rattle.framing.specs.Segment.{acceptedFrame}
 use Rattle.checksum.specs.Crc.{crc32Of}
 use Rattle.checksum.proofs.CheckValue.{crc32-lt}
 use Rattle.expansion.specs.Frame.{Message, Typed, kindOk, ok, body, trailer}
-use Rattle.expansion.specs.Rules.{size, checkRight, fieldsOk, messageIn, judge}
+use Rattle.expansion.specs.Rules.{size, checkRight, fieldsOk, faultOf, messageIn, judge}
+use Rattle.expansion.proofs.Passed.{Passed, no-fault}
 
 -- what a frame holds between its marks, before hiding
 abbrev pub content : Message → List ℕ
@@ -108,4 +109,5 @@ module _ (m : Message) (t : Typed m) where
 
   pub judge-content : ok m ≡ true → (wire : List ℕ) → judge (content m) wire ≡ acceptedFrame m
   judge-content h wire =
-      rw (le-ltb (length (content m)) 8 (omega (arith, content-length m)), check-content, fields-content h) (ap acceptedFrame message-content)
+      let p : Passed (content m) = record { long = omega (arith, content-length m); checked = check-content; fields = fields-content h } in
+      rw (eq-eqb (faultOf (content m)) 0 (no-fault (content m) p)) (ap acceptedFrame message-content)

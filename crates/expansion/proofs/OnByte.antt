@@ -9,7 +9,7 @@ use lib.ListN.{length, take, length-append}
 use lib.Dec.{lit<}
 use Rattle.runs.specs.Runs.{Bytes}
 use Rattle.runs.proofs.Bytes.{bytes-more}
-use Rattle.runs.proofs.Cases.{by-test, by-eqb, by-ltb}
+use Rattle.runs.proofs.Cases.{by-eqb, by-ltb}
 use Rattle.framing.specs.Segment.{Segment, refusedFrame, acceptedFrame, noiseAfter}
 use Rattle.framing.proofs.Byte.{data-stands, Reached, Takes, goes-on, restarts, closes, Ends, by-end, ends-quiet}
 use Rattle.escape.specs.Code.{Meaning, byte, waits, start, end, wrong, meaning, hide}
@@ -17,11 +17,13 @@ use Rattle.escape.specs.Expansion.{hideByte, expansion}
 use Rattle.escape.proofs.Lawful.{hide-more, hide-short}
 use Rattle.escape.proofs.Expansion.{expansion-lawful}
 use Rattle.expansion.specs.Frame.{Message, ok, body, trailer, enclose}
-use Rattle.expansion.specs.Rules.{Phase, hunting, inside, size, gathered, held, checkRight, fieldsOk, judge, gather, act, onByte}
+use Rattle.expansion.specs.Rules.{Phase, hunting, inside, size, gathered, held, faultOf, judge, gather, act, onByte}
 use Rattle.expansion.specs.Contract.{numbersOf, messageOf, link}
 use Rattle.runs.proofs.Each.{each-nil}
 use Rattle.expansion.proofs.Hidden.{Meant, meant}
+use Rattle.expansion.proofs.Passed.{passed}
 use Rattle.expansion.proofs.Judge.{content, content-in, ok-in}
+use Rattle.expansion.proofs.Typed.{typed}
 
 -- what is gathered are bytes, and no more than the store holds
 abbrev pub Good : Phase → Type 0
@@ -55,16 +57,13 @@ held-open : held (inside false []) ≡ 0xFD ∷ []
 held-open = ap (λ (x : List ℕ). 0xFD ∷ (x ++ [])) (each-nil hideByte)
 
 -- the end of a frame: an accepted message has the gathered bytes as its content
-abbrev Judged : List ℕ → Message → Type 0
+abbrev pub Judged : List ℕ → Message → Type 0
 Judged g m = Good (inside false g) → (content m ≡ g) × (ok m ≡ true)
 
-judge-ends : (g wire : List ℕ) → Ends (Judged g) wire (judge g wire)
+pub judge-ends : (g wire : List ℕ) → Ends (Judged g) wire (judge g wire)
 judge-ends g wire =
-    by-ltb P (length g) 8 (λ _. refl) (λ l.
-    by-test P (checkRight g) (λ c. by-test P (fieldsOk g) (λ f h. (content-in g l (h .0) c, ok-in g l (h .1) f)) (λ _. refl)) (λ _. refl))
-  where
-    P : Segment Message → Type 0
-    P = Ends (Judged g) wire
+    by-eqb (Ends (Judged g) wire) (faultOf g) 0
+    (λ z h. let p = passed g z in (content-in g (p .long) (h .0) (p .checked), ok-in g (p .long) (h .1) (p .fields))) (λ _. refl)
 
 pub judge-noise : (g wire : List ℕ) (n : ℕ) → noiseAfter (some (judge g wire)) n ≡ n
 judge-noise g wire n = ends-quiet (Judged g) wire (judge g wire) (judge-ends g wire) n
@@ -82,6 +81,7 @@ judge-takes g wire h e =
     (λ m t. closes reached g wire [] (acceptedFrame m) (ap enclose (t h .0) ∙ e) (omega arith)
     (record {
       may = t h .1;
+      typed = λ _. typed m (subst Bytes (sym (t h .0)) (h .0));
       read = λ store stands. read-back m store (subst (λ (x : List ℕ). take (length x) store ≡ x) (sym (t h .0)) stands);
       hunts = refl;
     }))

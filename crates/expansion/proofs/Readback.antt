@@ -8,9 +8,9 @@ use native.Mathlib.Omega.{arith}
 use lib.ListN.{length}
 use borrow.Author.Tests.{lt-ltb}
 use Rattle.framing.specs.Receiver.{feed}
-use Rattle.framing.specs.Segment.{Segment, message, step}
+use Rattle.framing.specs.Segment.{Segment, message}
 use Rattle.framing.proofs.Feed.{Quiet, quiet-cons, feed-event}
-use Rattle.framing.proofs.Segments.{step-accept}
+use Rattle.framing.proofs.Segments.{step, step-accept}
 use Rattle.framing.proofs.Lawful.{at}
 use Rattle.escape.specs.Code.{byte, waits, meaning, hide}
 use Rattle.escape.specs.Expansion.{expansion}

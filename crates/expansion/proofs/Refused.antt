@@ -12,19 +12,20 @@ use Rattle.runs.specs.Runs.{Bytes, over}
 use Rattle.runs.proofs.Bytes.{bytes-left, bytes-right, bytes-append, bytes-take}
 use Rattle.runs.proofs.Cases.{by-test, by-eqb, by-ltb}
 use Rattle.framing.specs.Receiver.{Fed, feed, emit, last, join}
-use Rattle.framing.specs.Segment.{Segment, refusedFrame, Event, refusal, Config, step, eventOf, wires}
+use Rattle.framing.specs.Segment.{Segment, refusedFrame, Event, refusal, eventOf, wires}
 use Rattle.framing.specs.Link.{Lent, stepOn, callOn}
 use Rattle.framing.specs.Claims.{segments}
 use Rattle.framing.proofs.Feed.{last-byte, used-some, used-le, events-append, last-append}
-use Rattle.framing.proofs.Segments.{phase-last}
+use Rattle.framing.proofs.Segments.{Config, step, phase-last}
 use Rattle.framing.proofs.Lawful.{at, Counts, counts-last, driven, accounted}
 use Rattle.framing.specs.declared.State.{State}
 use Rattle.escape.specs.Code.{Meaning, byte, waits, start, end, wrong, meaning, hide}
 use Rattle.escape.specs.Expansion.{expansion}
 use Rattle.expansion.specs.Frame.{Message, enclose, frame}
-use Rattle.expansion.specs.Rules.{Phase, hunting, inside, size, gathered, held, checkRight, fieldsOk, act, onByte}
+use Rattle.expansion.specs.Rules.{Phase, hunting, inside, size, gathered, held, faultOf, act, onByte}
 use Rattle.expansion.specs.Contract.{phaseOf, link}
 use Rattle.expansion.specs.Claims.{gatheredBefore, Stands, RefusedHeader, afterStream, RefusedAsSent}
+use Rattle.expansion.proofs.Passed.{checked-long}
 use Rattle.expansion.proofs.Hidden.{Meant, meant}
 use Rattle.expansion.proofs.Lawful.{lawful}
 
@@ -44,10 +45,9 @@ act-eight g before wire (byte b) =
 act-eight g before wire waits = λ e. absurd (Option·none-ne-some _ e)
 act-eight g before wire start = λ e. absurd (other 4 (λ q. omega arith) e)
 act-eight g before wire end =
-    by-ltb Q (length g) 8 (λ _ e. absurd (other 6 (λ q. omega arith) e)) (λ l.
-    by-test Q (checkRight g)
-    (λ _. by-test Q (fieldsOk g) (λ _ e. absurd (let z : _≡_ {A = ℕ} 0 1 = cc in omega arith)) (λ _ e. absurd (other 9 (λ q. omega arith) e)))
-    (λ _ _. record { ended = refl; long = l; closes = refl }))
+    by-eqb Q (faultOf g) 0 (λ _ e. absurd (let z : _≡_ {A = ℕ} 0 1 = cc in omega arith))
+    (λ _ e. let n : faultOf g ≡ 8 = cc in
+    record { ended = refl; long = checked-long g n; closes = ap (λ (k : ℕ). (hunting, some (refusedFrame k wire))) n })
   where
     Q : Segment Message → Type 0
     Q s = eventOf (some s) ≡ some (refusal 8) → Eight g wire end (hunting, some s)

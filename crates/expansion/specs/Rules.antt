@@ -1,12 +1,13 @@
 -- The rules of the expansion receiver: what each byte does, over the gathered bytes as a list, with no store.
 use Prim.Native.Nat.{ℕ, _-_}
-use mathlib.Core.Bool.{Bool, true, false, cond, _&&_}
+use mathlib.Core.Bool.{Bool, true, false, cond, _&&_, not}
 use mathlib.Core.List.{List, [], _∷_, _++_}
 use mathlib.Core.Option.{Option, none, some}
 use lib.ListN.{length, getD, take, drop}
 use lib.Dec.{eqb, leb, ltb}
 use Rattle.runs.specs.Number.{littleEndian}
 use Rattle.framing.specs.Segment.{Segment, noise, refusedFrame, acceptedFrame}
+use Rattle.framing.specs.Tests.{firstOf}
 use Rattle.checksum.specs.Crc.{crc32Of}
 use Rattle.escape.specs.Code.{Meaning, byte, waits, start, end, wrong, meaning, hide}
 use Rattle.escape.specs.Expansion as Escape
@@ -38,16 +39,23 @@ checkRight g = eqb (littleEndian (drop (length g - 4) g)) (crc32Of (take (length
 abbrev pub fieldsOk : List ℕ → Bool
 fieldsOk g = kindOk (getD g 1 0) (length g - 8) && leb (getD g 2 0) 3
 
+-- the tests at the end of a frame, in their order
+unfoldable pub faultOf : List ℕ → ℕ
+faultOf g =
+    firstOf
+    ((ltb (length g) 8, 6)
+    ∷ (not (checkRight g), 8)
+    ∷ (not (fieldsOk g), 9)
+    ∷ [])
+
 -- the message of gathered bytes
 abbrev pub messageIn : List ℕ → Message
 messageIn g =
     record { id = getD g 0 0; kind = getD g 1 0; repeat = getD g 2 0; address = getD g 3 0; payload = take (length g - 8) (drop 4 g) }
 
--- the end of a frame of these wire bytes: 6 below the least size, then 8 where the CRC differs, then 9
+-- the end of a frame of these wire bytes
 abbrev pub judge : List ℕ → List ℕ → Segment Message
-judge g wire =
-    cond (ltb (length g) 8) (refusedFrame 6 wire)
-    (cond (checkRight g) (cond (fieldsOk g) (acceptedFrame (messageIn g)) (refusedFrame 9 wire)) (refusedFrame 8 wire))
+judge g wire = cond (eqb (faultOf g) 0) (acceptedFrame (messageIn g)) (refusedFrame (faultOf g) wire)
 
 -- one more byte is gathered, or 5 where it is one too many
 abbrev pub gather : List ℕ → ℕ → List ℕ → Phase × Option (Segment Message)

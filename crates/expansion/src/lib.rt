@@ -20,8 +20,8 @@ ghost use Rattle.framing.specs.Link.{isEvent, told, stepOn, reported, receives}
 ghost use Rattle.escape.specs.Code.{meaningOf, meaning};
 ghost use Rattle.escape.specs.Expansion as Escape;
 ghost use Rattle.expansion.specs.Frame.{kindOk, ok, enclose, frame};
-ghost use Rattle.expansion.specs.Rules.{hunting, size, checkRight, judge, gather, act, onByte};
-ghost use Rattle.expansion.specs.Contract.{phaseOf, dataOf, link, toldOf, receivedOf};
+ghost use Rattle.expansion.specs.Rules.{hunting, size, checkRight, faultOf, messageIn, judge, gather, act, onByte};
+ghost use Rattle.expansion.specs.Contract.{phaseOf, numbersOf, dataOf, link, toldOf, receivedOf};
 ghost use Rattle.expansion.specs.Steps.{ByRules, Room, Passes};
 
 // The least store of a receiver: a header of 4 bytes, at most 1,024 of data, a CRC of 4.
@@ -184,40 +184,55 @@ fn gather_byte(state: State, store: &mut [u8], byte: u8) -> Stepped
     }
 }
 
-// Whether the CRC in the last four of so many bytes is that of those before it.
-fn check_right(store: &[u8], count: usize) -> bool
-    requires { ⌜ (4 ≤ count) × (count ≤ length (now store)) ⌝ }
-    ensures { λ r. ⌜ r ≡ checkRight (take count (now (store .entry))) ⌝ }
+// Whether the CRC in the last four bytes is that of those before it.
+fn check_right(gathered: &[u8]) -> bool
+    requires { ⌜ 4 ≤ length (now gathered) ⌝ }
+    ensures { λ r. ⌜ r ≡ checkRight (now (gathered .entry)) ⌝ }
 {
-    let end = count - 4;
-    runs::number_at(store, end, 4) == checksum::crc32(&store[..end])
+    let end = gathered.len() - 4;
+    runs::number_at(gathered, end, 4) == checksum::crc32(&gathered[..end])
 }
 
-// The end of a frame with so many gathered bytes.
-fn judge_frame(store: &[u8], count: usize) -> Event
-    requires { ⌜ (count ≤ size) × (size ≤ length (now store)) ⌝ }
-    ensures { λ r. ⌜ ((wire : List ℕ) → toldOf r ≡ told link (eventOf (some (judge (take count (now (store .entry))) wire)))) ⌝ }
+// The number of the first test that a frame's gathered bytes fail, 0 where they pass all.
+fn fault_of(gathered: &[u8]) -> u8
+    ensures { λ r. ⌜ r ≡ faultOf (now (gathered .entry)) ⌝ }
 {
+    let count = gathered.len();
     if count < 8 {
-        return Event::Refused(refusal::TOO_SHORT);
+        return refusal::TOO_SHORT;
     }
-    if check_right(store, count) {
-        let kind = store[1];
-        let repeat = store[2];
-        if fields_ok(kind, repeat, count - 8) {
-            Event::Accepted(Message {
-                id: store[0],
-                kind: kind,
-                repeat: repeat,
-                address: store[3],
-                length: count - 8,
-            })
-        } else {
-            Event::Refused(refusal::WRONG_FIELD)
-        }
-    } else {
-        Event::Refused(refusal::WRONG_CHECK)
+    if !check_right(gathered) {
+        return refusal::WRONG_CHECK;
     }
+    if !fields_ok(gathered[1], gathered[2], count - 8) {
+        return refusal::WRONG_FIELD;
+    }
+    0
+}
+
+// The message of a frame's gathered bytes.
+fn message_of(gathered: &[u8]) -> Message
+    requires { ⌜ 8 ≤ length (now gathered) ⌝ }
+    ensures { λ r. ⌜ r ≡ numbersOf (messageIn (now (gathered .entry))) ⌝ }
+{
+    Message {
+        id: gathered[0],
+        kind: gathered[1],
+        repeat: gathered[2],
+        address: gathered[3],
+        length: gathered.len() - 8,
+    }
+}
+
+// The end of a frame.
+fn judge_frame(gathered: &[u8]) -> Event
+    ensures { λ r. ⌜ ((wire : List ℕ) → toldOf r ≡ told link (eventOf (some (judge (now (gathered .entry)) wire)))) ⌝ }
+{
+    let fault = fault_of(gathered);
+    if fault != 0 {
+        return Event::Refused(fault);
+    }
+    Event::Accepted(message_of(gathered))
 }
 
 // What a byte of an open frame means, in mode 2 after an FF.
@@ -247,7 +262,7 @@ fn act_on(state: State, store: &mut [u8], meaning: Meaning) -> Stepped
             state: framing::reopen(state, 1, 0, 1), // no FF waits behind the FD
         },
         Meaning::End => Stepped {
-            event: judge_frame(store, state.count),
+            event: judge_frame(&store[..state.count]),
             state: framing::close(state),
         },
         Meaning::Wrong => Stepped {

@@ -8,7 +8,7 @@ use native.Mathlib.Omega.{arith}
 use lib.ListN.{length, take, drop, length-append, take-append-drop}
 use lib.Seq.{take-append-seam, drop-at}
 use borrow.Author.Tests.{le-leb}
-use Rattle.runs.specs.Runs.{over}
+use Rattle.runs.specs.Runs.{Bytes, over}
 use Rattle.framing.specs.Segment.{Segment, noise, refusedFrame, acceptedFrame, wireOf, noiseAfter}
 use Rattle.framing.specs.Link.{Link, dataAt}
 use Rattle.framing.proofs.Segments.{wireOpt, Accepts}
@@ -39,10 +39,11 @@ pub record Reached (L : Link) : Type 1 where
   pub held-first : L .held (L .hunting) ≡ []
   pub gathered-first : L .gathered (L .hunting) ≡ []
 
--- an accepted message, after which the receiver hunts: it may be sent, and is read back from its numbers and the store, at whose start
--- the gathered bytes g stood and now f stands
+-- an accepted message, after which the receiver hunts: it may be sent, its numbers fit their types where its frame is of bytes, and it is read
+-- back from its numbers and the store, at whose start the gathered bytes g stood and now f stands
 pub record Taken (L : Link) (g f : List ℕ) (q : L .Phase) (m : L .Message) : Type 0 where
   pub may : L .ok m ≡ true
+  pub typed : Bytes (L .frame m) → L .Typed m
   pub read : (store : List ℕ) → take (length g) store ≡ g → L .messageOf (over f store) (L .numbersOf m) ≡ m
   pub hunts : q ≡ L .hunting
 

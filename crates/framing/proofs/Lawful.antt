@@ -10,17 +10,17 @@ use lib.ListN.{length, take, length-append, length-drop}
 use lib.Seq.{sets}
 use borrow.Author.Tests.{le-leb}
 use Rattle.runs.specs.Runs.{Bytes, over}
-use Rattle.runs.proofs.Bytes.{bytes-append}
+use Rattle.runs.proofs.Bytes.{bytes-append, bytes-left, bytes-right}
 use Rattle.runs.proofs.Run.{part-sets, sets-over}
 use Rattle.framing.specs.Answer.{Outcome, done}
 use Rattle.framing.specs.Receiver.{Fed, stop, feed, events, last, drive, join}
-use Rattle.framing.specs.Segment.{Segment, noise, refusedFrame, acceptedFrame, Event, message, refusal, Config, step, eventOf, noiseAfter, wires}
+use Rattle.framing.specs.Segment.{Segment, noise, refusedFrame, acceptedFrame, Event, message, refusal, eventOf, noiseAfter, wires}
 use Rattle.framing.specs.Writer.{writes}
 use Rattle.framing.specs.Link.{Link, Lent, stepOn, callOn, told, heardIn, called}
 use Rattle.framing.specs.Claims.{segments, openAt, WritesFrame, ReadsBack, Canonical, CutAnywhere, Accounted}
 use Rattle.framing.proofs.Stored.{stored-done}
 use Rattle.framing.proofs.Cutting.{Follows, cutting, feed-from, feed-follows}
-use Rattle.framing.proofs.Segments.{wireOpt, Accepts, accepts-map, AllAccept, accept-at, wires-append, partition, all-accepted, phase-last, heard-events, noise-last}
+use Rattle.framing.proofs.Segments.{Config, step, wireOpt, Accepts, accepts-map, AllAccept, accept-at, wires-append, partition, all-accepted, phase-last, heard-events, noise-last}
 use Rattle.framing.proofs.Byte.{Reached, Taken, Takes}
 
 abbrev pub at : {P : Type 0} → P → ℕ → Config P
@@ -79,19 +79,36 @@ module _ (L : Link) (laws : Lawful L) where
       partition (L .frame) (L .held) (L .onByte) Good good-next (λ p b y g. laws .takes p b y g .holds) (L .hunting) bs y (laws .reached .good-first)
       ∙ ap (λ (w : List ℕ). w ++ bs) (laws .reached .held-first)
 
-  pub all-sendable : (bs : List ℕ) → Bytes bs → AllAccept (λ m. L .ok m ≡ true) (segments L bs)
-  all-sendable bs y =
-      all-accepted (L .frame) (L .held) (L .onByte) Good good-next (λ m. L .ok m ≡ true) (λ p b y g. accepted-is (λ m. L .ok m ≡ true) p b y g (λ m t. t .may))
+  -- what is known of an accepted message: it may be sent, and its numbers fit their types where its frame is of bytes
+  abbrev pub Writable : L .Message → Type 0
+  Writable m = (L .ok m ≡ true) × (Bytes (L .frame m) → L .Typed m)
+
+  pub all-writable : (bs : List ℕ) → Bytes bs → AllAccept Writable (segments L bs)
+  all-writable bs y =
+      all-accepted (L .frame) (L .held) (L .onByte) Good good-next Writable (λ p b y g. accepted-is Writable p b y g (λ m t. (t .may, t .typed)))
       (L .hunting) bs y (laws .reached .good-first)
 
   pub canonical : Canonical L
-  canonical bs y before after m e = (
-    accept-at (λ m. L .ok m ≡ true) before after m (subst (λ (ss : List (Segment (L .Message))). AllAccept (λ m. L .ok m ≡ true) ss) e (all-sendable bs y)),
-    sym (accounted bs y)
-        ∙ ap (λ (ss : List (Segment (L .Message))). wires (L .frame) ss ++ openAt L bs) e
-        ∙ ap (λ (w : List ℕ). w ++ openAt L bs)
-        (wires-append (L .frame) before (acceptedFrame m ∷ after) ∙ sym (append-assoc (wires (L .frame) before) (L .frame m) (wires (L .frame) after))),
-  )
+  canonical bs y before after m e = (known .0, known .1 (bytes-right earlier (L .frame m) (bytes-left (earlier ++ L .frame m) later whole-bytes)), whole)
+    where
+      earlier : List ℕ
+      earlier = wires (L .frame) before
+
+      later : List ℕ
+      later = wires (L .frame) after ++ openAt L bs
+
+      known : Writable m
+      known = accept-at Writable before after m (subst (λ (ss : List (Segment (L .Message))). AllAccept Writable ss) e (all-writable bs y))
+
+      whole : bs ≡ earlier ++ L .frame m ++ wires (L .frame) after ++ openAt L bs
+      whole =
+          sym (accounted bs y)
+          ∙ ap (λ (ss : List (Segment (L .Message))). wires (L .frame) ss ++ openAt L bs) e
+          ∙ ap (λ (w : List ℕ). w ++ openAt L bs)
+          (wires-append (L .frame) before (acceptedFrame m ∷ after) ∙ sym (append-assoc earlier (L .frame m) (wires (L .frame) after)))
+
+      whole-bytes : Bytes ((earlier ++ L .frame m) ++ later)
+      whole-bytes = subst Bytes (whole ∙ append-assoc (earlier ++ L .frame m) (wires (L .frame) after) (openAt L bs)) y
 
   -- what a caller makes of an event, through what it is told
   abbrev view : Lent L → Option (Event (L .Message)) → Option (Event (L .Message))

@@ -7,7 +7,17 @@ use native.Mathlib.Omega.{arith}
 use lib.Seq.{append-snoc}
 use Rattle.runs.specs.Runs.{Bytes}
 use Rattle.framing.specs.Receiver.{emit, events, last}
-use Rattle.framing.specs.Segment.{Segment, noise, refusedFrame, acceptedFrame, message, Config, eventOf, noiseAfter, wireOf, wires, step, heard, noiseOf}
+use Rattle.framing.specs.Segment.{Segment, noise, refusedFrame, acceptedFrame, Event, message, refusal, eventOf, noiseAfter, wireOf, wires, heard, noiseOf}
+
+-- a phase, and the noise bytes so far
+pub record Config (P : Type 0) : Type 0 where
+  pub phase : P
+  pub noise : ℕ
+
+-- a link's rules as a receiver
+abbrev pub step : {P M : Type 0} → (P → ℕ → P × Option (Segment M)) → Config P → ℕ → Config P × Option (Event M)
+step onByte c b =
+    (record { phase = onByte (c .phase) b .0; noise = noiseAfter (onByte (c .phase) b .1) (c .noise) }, eventOf (onByte (c .phase) b .1))
 
 -- the wire bytes of the segment that a byte closes, if any
 abbrev pub wireOpt : {M : Type 0} → (M → List ℕ) → Option (Segment M) → List ℕ
@@ -75,6 +85,11 @@ module _ {P M : Type 0} (onByte : P → ℕ → P × Option (Segment M)) where
   pub step-accept : (p q : P) (n b : ℕ) (m : M) → onByte p b ≡ (q, some (acceptedFrame m))
       → step onByte (record { phase = p; noise = n }) b ≡ (record { phase = q; noise = n }, some (message m))
   step-accept p q n b m h = rw h
+
+  -- a byte that ends a refused one
+  pub step-refused : (p q : P) (n b k : ℕ) (wire : List ℕ) → onByte p b ≡ (q, some (refusedFrame k wire))
+      → step onByte (record { phase = p; noise = n }) b ≡ (record { phase = q; noise = n }, some (refusal k))
+  step-refused p q n b k wire h = rw h
 
   -- the receiver's phase, events and noise are those of the segments
   pub phase-last : (c : Config P) (bs : List ℕ) → last (step onByte) c bs .phase ≡ last onByte (c .phase) bs

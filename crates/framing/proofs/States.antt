@@ -10,9 +10,13 @@ use lib.Dec.{eqb, ltb}
 use borrow.Author.Tests.{eq-eqb, ne-eqb, eqb-true, leb-true}
 use Rattle.runs.proofs.Cases.{by-eqb, by-ltb, and-both}
 use Rattle.framing.specs.Segment.{Segment, noiseAfter}
-use Rattle.framing.specs.State.{knownState, openAfter, stateAfter, stateOf, afterNoise}
+use Rattle.framing.specs.State.{knownState, openAfter, stateAfter, afterNoise}
 use Rattle.framing.specs.declared.State.{State}
 use Rattle.framing.proofs.Segments.{wireOpt}
+
+-- the state of a phase and a noise count, with the mode, the gathered bytes and the held wire bytes of each phase
+abbrev pub stateOf : {P : Type 0} → (P → ℕ) → (P → List ℕ) → (P → List ℕ) → P → ℕ → State
+stateOf modeOf gathered held p n = record { mode = modeOf p; count = length (gathered p); «open» = length (held p); noise = n }
 
 -- the count of held bytes goes with them, where they are fewer than 2^32
 pub open-next : {M : Type 0} (frame : M → List ℕ) (o : Option (Segment M)) (s : State) (h h′ : List ℕ) (b : ℕ) → s .«open» ≡ length h

@@ -1,22 +1,24 @@
 -- What the calls of a lawful link's writer leave on the wire is read back, and tells the messages.
 use Prim.Native.Nat.{ℕ}
 use mathlib.Core.Path.{_≡_, refl, ap, sym, _∙_, subst}
+use mathlib.Core.Logic.{_↔_}
 use mathlib.Core.Bool.{true}
 use mathlib.Core.List.{List, [], _∷_, _++_, map}
 use mathlib.Core.Option.{some}
 use lib.ListN.{length}
 use lib.Dec.{lit<}
 use lib.Seq.{drop-append-seam}
-use Rattle.runs.specs.Runs.{Bytes}
+use Rattle.runs.specs.Runs.{Bytes, Begins}
 use Rattle.runs.proofs.Bytes.{bytes-append}
 use Rattle.framing.specs.Receiver.{Fed, feed, events, last, drive, join}
-use Rattle.framing.specs.Segment.{Event, message, Config, step}
-use Rattle.framing.specs.Writer.{kept}
+use Rattle.framing.specs.Segment.{Event, message}
+use Rattle.framing.specs.Writer.{Call, frames, kept, wire}
 use Rattle.framing.specs.Link.{Link, writeOn, called}
 use Rattle.framing.specs.Claims.{AllOf, CallsReadBack, CallsTold}
 use Rattle.framing.proofs.Feed.{events-feed, last-feed}
-use Rattle.framing.proofs.Calls.{frames, wire-kept, kept-all, lists-told}
+use Rattle.framing.proofs.Calls.{wire-kept, kept-all, lists-told}
 use Rattle.framing.proofs.Lawful.{Lawful, at, Counts, driven}
+use Rattle.framing.proofs.Segments.{Config, step}
 
 module _ (L : Link) (laws : Lawful L) where
   -- a message that may be sent
@@ -81,4 +83,14 @@ module _ (L : Link) (laws : Lawful L) where
       event m rest o = ap (λ (f : Fed (Event (L .Message)) (Config (L .Phase))). f .event) (laws .reads-frame m rest 0 (o .1) (o .0))
 
   pub calls-told : CallsTold L
-  calls-told = lists-told (L .ok) (L .frame) (L .Typed) delimited (laws .frame-filled)
+  calls-told =
+      record {
+        framed = wire-kept (L .ok) (L .frame);
+        equal = λ xs ys s t. told xs ys s t .0;
+        begins = λ xs ys s t. told xs ys s t .1;
+      }
+    where
+      told : (xs ys : List (Call (L .Message))) → AllOf (λ c. L .Typed (c .message)) xs → AllOf (λ c. L .Typed (c .message)) ys
+          → ((wire (writeOn L) xs ≡ wire (writeOn L) ys) ↔ (kept (writeOn L) xs ≡ kept (writeOn L) ys))
+          × (Begins (wire (writeOn L) xs) (wire (writeOn L) ys) ↔ Begins (kept (writeOn L) xs) (kept (writeOn L) ys))
+      told = lists-told (L .ok) (L .frame) (L .Typed) delimited (laws .frame-filled)

@@ -54,13 +54,3 @@ module _ {M : Type 0} (frame : M → List ℕ) where
   abbrev pub wires : List (Segment M) → List ℕ
   wires [] = []
   wires (s ∷ ss) = wireOf s ++ wires ss
-
--- a phase, and the noise bytes so far
-pub record Config (P : Type 0) : Type 0 where
-  pub phase : P
-  pub noise : ℕ
-
--- a link's rules as a receiver
-abbrev pub step : {P M : Type 0} → (P → ℕ → P × Option (Segment M)) → Config P → ℕ → Config P × Option (Event M)
-step onByte c b =
-    (record { phase = onByte (c .phase) b .0; noise = noiseAfter (onByte (c .phase) b .1) (c .noise) }, eventOf (onByte (c .phase) b .1))

@@ -27,9 +27,11 @@ module _ (L : Link) where
       let a = receives L (L .fresh, store) run in
       (settle (exactly (length run) (a .1) (L .noise (a .2 .0))) (a .0), a .2 .1)
 
-  -- m may be sent, the run is its frame, the numbers are its own, and with the store after the call they give it back
+  -- m may be sent, its numbers fit their types, the run is its frame, the numbers told are its own, and with the store after the call they give it
+  -- back
   pub record Means (m : L .Message) (run store : List ℕ) (v : L .Numbers) : Type 0 where
     pub sendable : L .ok m ≡ true
+    pub typed : L .Typed m
     pub framed : run ≡ L .frame m
     pub told : v ≡ L .numbersOf m
     pub kept : L .messageOf (readOn run store .1) v ≡ m

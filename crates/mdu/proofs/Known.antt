@@ -2,23 +2,24 @@
 -- not give 12.
 use Prim.Native.Nat.{ℕ, _+_, _≤_, _<_}
 use mathlib.Core.Path.{_≡_, refl}
-use mathlib.Core.Bool.{true, cond, _&&_, not}
+use mathlib.Core.Bool.{true, cond, _&&_}
 use mathlib.Core.List.{List, [], _∷_, _++_}
 use mathlib.Core.Option.{Option}
 use native.Mathlib.Omega.{arith}
-use lib.ListN.{length, getD, length-append}
+use lib.ListN.{length, length-append}
 use lib.Seq.{length-take-le}
 use lib.Dec.{eqb, leb, ltb}
 use borrow.Author.Tests.{eqb-true, ne-eqb, le-leb, lt-ltb, le-ltb, leb-true, ltb-true}
-use Rattle.runs.proofs.Cases.{by-test, by-eqb, by-ltb, and-both}
+use Rattle.runs.proofs.Cases.{by-eqb, by-ltb, and-both}
 use Rattle.framing.specs.Segment.{Segment, noiseAfter}
 use Rattle.framing.specs.State.{openAfter}
 use Rattle.framing.specs.State as Shared
-use Rattle.mdu.specs.Frame.{Message, lengthOk, headerSum}
-use Rattle.mdu.specs.Rules.{Phase, hunting, inHeader, inBody, size, gathered, held, stated, enter, onByte}
+use Rattle.mdu.specs.Frame.{Message, lengthOk}
+use Rattle.mdu.specs.Rules.{Phase, hunting, inHeader, inBody, size, gathered, held, stated, headerFault, enter, onByte}
 use Rattle.mdu.specs.Contract.{knownState, modeOf, lengthOf, phaseOf, stateAfter}
 use Rattle.mdu.specs.Steps.{ToCome}
 use Rattle.mdu.specs.declared.State.{State}
+use Rattle.mdu.proofs.Passed.{passed}
 
 -- how many bytes each phase has gathered
 abbrev pub Sized : Phase → Type 0
@@ -45,14 +46,9 @@ sized-known (inBody k g) o n h = body-known (length g) o n k h
 
 enter-sized : (g : List ℕ) → length g ≡ 6 → Sized (enter g .0)
 enter-sized g l =
-    by-test P (eqb (getD g 1 0) 0x01 && not (eqb (getD g 4 0) 0))
-    (λ _. by-eqb P (getD g 5 0) (headerSum g)
-    (λ _. by-test P (lengthOk (stated g))
-    (λ k. record { allowed = k; low = omega arith; high = omega arith; most = length-most (stated g) k })
-    (λ _. tt)) (λ _. tt)) (λ _. tt)
-  where
-    P : Phase × Option (Segment Message) → Type 0
-    P r = Sized (r .0)
+    by-eqb (λ (r : Phase × Option (Segment Message)). Sized (r .0)) (headerFault g) 0
+    (λ z. let k = passed g z .allowed in record { allowed = k; low = omega arith; high = omega arith; most = length-most (stated g) k })
+    (λ _. tt)
 
 pub sized-next : (p : Phase) (b : ℕ) → Sized p → Sized (onByte p b .0)
 sized-next hunting b h = by-eqb (λ (r : Phase × Option (Segment Message)). Sized (r .0)) b 0xE3 (λ _. (omega arith, omega arith)) (λ _. tt)

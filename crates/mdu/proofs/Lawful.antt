@@ -10,8 +10,8 @@ use borrow.Author.Tests.{lt-ltb, le-ltb}
 use Rattle.runs.specs.Runs.{Bytes}
 use Rattle.runs.proofs.Cases.{by-eqb, by-ltb, and-both}
 use Rattle.runs.proofs.Bytes.{bytes-append}
-use Rattle.framing.specs.State as Shared
 use Rattle.framing.proofs.States.{shared-next, shared-leaves}
+use Rattle.framing.proofs.States as Shared
 use Rattle.framing.proofs.Lawful.{Lawful}
 use Rattle.checksum.specs.Crc.{crc16Of}
 use Rattle.checksum.proofs.CheckValue.{crc16-lt}

@@ -1,9 +1,11 @@
--- `Entered`, `OnByte`, `Readback` and `Known` have the laws of the rules, `Lawful` gathers them, `Theorems` has what is claimed. `Store`, `Steps`,
--- `Body` and `Written` are for the code.
+-- `Passed`, `Entered`, `OnByte`, `Readback` and `Known` have the laws of the rules, `Lawful` gathers them, `Theorems` has what is claimed. `Store`,
+-- `Steps`, `Body` and `Written` are for the code.
+pub mod Passed
 pub mod Entered
 pub mod OnByte
 pub mod Readback
 pub mod Known
+pub mod Typed
 pub mod Lawful
 pub mod Theorems
 pub mod Store

@@ -1,24 +1,26 @@
 -- What a byte does by the rules.
 use Prim.Native.Nat.{ℕ, suc, _+_, _*_, _/_, _%_, _≤_, _<_}
 use mathlib.Core.Path.{_≡_, refl, ap, sym, _∙_, subst}
-use mathlib.Core.Bool.{Bool, true, false, cond, _&&_, not}
+use mathlib.Core.Bool.{Bool, true, false, cond}
 use mathlib.Core.List.{List, [], _∷_, _++_}
 use mathlib.Core.Option.{Option, none, some}
 use native.Mathlib.Omega.{arith}
 use lib.ListN.{length, getD, take, length-append, List·getD-append}
 use lib.Seq.{take-append-seam, length-take-le, getD-append-add}
 use lib.Dec.{eqb}
-use borrow.Author.Tests.{le-leb, eqb-true, eqb-false, not-true}
+use borrow.Author.Tests.{le-leb, eqb-true}
 use Rattle.runs.specs.Runs.{Bytes, over}
 use Rattle.runs.proofs.Bytes.{bytes-one, bytes-more}
-use Rattle.runs.proofs.Cases.{by-test, by-eqb, and-both}
+use Rattle.runs.proofs.Cases.{by-eqb}
 use Rattle.framing.specs.Segment.{Segment, noise, refusedFrame, acceptedFrame}
 use Rattle.framing.proofs.Byte.{data-stands, Takes, goes-on, closes}
 use Rattle.checksum.specs.Crc.{crc16Of}
-use Rattle.mdu.specs.Frame.{Message, lengthOk, headerSum, header, trailer, frame}
-use Rattle.mdu.specs.Rules.{Phase, hunting, inHeader, inBody, size, gathered, held, stated, sentCheck, enter, finish, onByte}
+use Rattle.mdu.specs.Frame.{Message, lengthOk, header, trailer, frame}
+use Rattle.mdu.specs.Rules.{Phase, hunting, inHeader, inBody, size, gathered, held, stated, sentCheck, headerFault, enter, finish, onByte}
 use Rattle.mdu.specs.Contract.{front, numbersOf, messageOf}
 use Rattle.mdu.proofs.Known.{length-most}
+use Rattle.mdu.proofs.Typed.{typed}
+use Rattle.mdu.proofs.Passed.{passed}
 use Rattle.mdu.proofs.Entered.{Good, reached, entered, two}
 
 -- a byte that leads to r: it is gathered, where w is what is then held, which stands at the start of the store
@@ -27,18 +29,8 @@ Next g w r = Takes reached g w w r
 
 enter-takes : (g w : List ℕ) → length w ≡ 6 → Bytes w → getD w 0 0 ≡ 0xE3 → Next g w (enter w)
 enter-takes g w l y e =
-    by-test (Next g w) (eqb (getD w 1 0) 0x01 && not (eqb (getD w 4 0) 0))
-    (λ t. let v = and-both (eqb (getD w 1 0) 0x01) (not (eqb (getD w 4 0) 0)) t in
-    by-eqb (Next g w) (getD w 5 0) (headerSum w)
-    (λ s. by-test (Next g w) (lengthOk (stated w))
-    (λ k. goes-on reached g w (inBody (stated w) w) refl
-    (entered w l y e (eqb-true (getD w 1 0) 1 (v .0)) (eqb-false (getD w 4 0) 0 (not-true (eqb (getD w 4 0) 0) (v .1))) s k))
-    (λ _. ends 10))
-    (λ _. ends 8))
-    (λ _. ends 9)
-  where
-    ends : (n : ℕ) → Next g w (hunting, some (refusedFrame n w))
-    ends n = closes reached g w w (refusedFrame n w) refl (omega arith) tt
+    by-eqb (Next g w) (headerFault w) 0 (λ z. goes-on reached g w (inBody (stated w) w) refl (entered w l y e (passed w z)))
+    (λ _. closes reached g w w (refusedFrame (headerFault w) w) refl (omega arith) tt)
 
 -- a message whose frame stands at the start of the store is read there
 read-back : (m : Message) (w store : List ℕ) → frame m ≡ w → messageOf (over w store) (numbersOf m) ≡ m
@@ -55,7 +47,7 @@ finish-takes k g w a e i l low allowed y =
     (by-eqb (λ (s : Segment Message). Next g whole (hunting, some s)) (sentCheck k whole) (crc16Of body)
     (λ c. let f = framed (sym c ∙ numbers) in
     closes reached g whole whole (acceptedFrame (record { address = a; body = body })) f fits
-    (record { may = rw (length-take-le k e (omega arith), allowed, le-leb 1 a low); read = λ store _. read-back _ whole store f; hunts = refl }))
+    (record { may = rw (length-take-le k e (omega arith), allowed, le-leb 1 a low); typed = typed (record { address = a; body = body }); read = λ store _. read-back _ whole store f; hunts = refl }))
     (λ _. closes reached g whole whole (refusedFrame 8 whole) refl fits tt))
   where
     whole : List ℕ

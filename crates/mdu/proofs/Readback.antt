@@ -11,18 +11,20 @@ use lib.Dec.{leb}
 use borrow.Author.Tests.{leb-true, eq-eqb, ne-eqb}
 use Rattle.runs.proofs.Cases.{and-both}
 use Rattle.framing.specs.Receiver.{feed}
-use Rattle.framing.specs.Segment.{Segment, acceptedFrame, message, step}
+use Rattle.framing.specs.Segment.{Segment, acceptedFrame, message}
 use Rattle.framing.proofs.Feed.{Quiet, quiet-nil, quiet-cons, quiet-append, feed-event}
-use Rattle.framing.proofs.Segments.{step-open, step-accept}
+use Rattle.framing.proofs.Segments.{step, step-open, step-accept}
 use Rattle.framing.proofs.Lawful.{at}
 use Rattle.checksum.specs.Crc.{crc16Of}
 use Rattle.mdu.specs.Frame.{Message, lengthOk, ok, headerSum, five, header, trailer, frame}
-use Rattle.mdu.specs.Rules.{hunting, inHeader, inBody, stated, sentCheck, enter, finish, onByte}
+use Rattle.mdu.specs.Rules.{hunting, inHeader, inBody, stated, sentCheck, headerFault, enter, finish, onByte}
+use Rattle.mdu.proofs.Passed.{Passed, no-fault}
 
 enter-header : (k a : ℕ) → 1 ≤ a → lengthOk k ≡ true → enter (header k a) ≡ (inBody k (header k a), none)
 enter-header k a low allowed =
     let e : stated (header k a) ≡ k = omega arith in
-    rw (ne-eqb a 0 (omega arith), eq-eqb (headerSum (five k a)) (headerSum (five k a)) refl, e, allowed)
+    let p : Passed (header k a) = record { version = refl; address = λ z. omega arith; checked = refl; allowed = rw e allowed } in
+    rw (eq-eqb (headerFault (header k a)) 0 (no-fault (header k a) p)) (ap (λ (n : ℕ). (inBody n (header k a), none)) e)
 
 header-quiet : (k a n : ℕ) → 1 ≤ a → lengthOk k ≡ true → Quiet (step onByte) (at hunting n) (header k a) (at (inBody k (header k a)) n)
 header-quiet k a n low allowed =

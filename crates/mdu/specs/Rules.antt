@@ -1,11 +1,12 @@
 -- The rules of the MDU receiver: what each byte does, over the gathered bytes as a list, with no store.
 use Prim.Native.Nat.{ℕ, _+_, _*_}
-use mathlib.Core.Bool.{cond, _&&_, not}
+use mathlib.Core.Bool.{cond, not}
 use mathlib.Core.List.{List, [], _∷_, _++_}
 use mathlib.Core.Option.{Option, none, some}
 use lib.ListN.{length, getD, take, drop}
 use lib.Dec.{eqb}
 use Rattle.framing.specs.Segment.{Segment, noise, refusedFrame, acceptedFrame}
+use Rattle.framing.specs.Tests.{firstOf}
 use Rattle.checksum.specs.Crc.{crc16Of}
 use Rattle.mdu.specs.Frame.{Message, lengthOk, headerSum}
 
@@ -35,12 +36,19 @@ stated g = getD g 2 0 * 256 + getD g 3 0
 abbrev pub sentCheck : ℕ → List ℕ → ℕ
 sentCheck k g = getD g (6 + k) 0 * 256 + getD g (7 + k) 0
 
--- byte six: 9 for the version or address 0, then 8 for the header sum, then 10 for the length
+-- the tests of a header, in their order: version, address 0, header sum, length
+unfoldable pub headerFault : List ℕ → ℕ
+headerFault g =
+    firstOf
+    ((not (eqb (getD g 1 0) 0x01), 9)
+    ∷ (eqb (getD g 4 0) 0, 9)
+    ∷ (not (eqb (getD g 5 0) (headerSum g)), 8)
+    ∷ (not (lengthOk (stated g)), 10)
+    ∷ [])
+
+-- byte six: the body follows, or the header is refused
 abbrev pub enter : List ℕ → Phase × Option (Segment Message)
-enter g =
-    cond (eqb (getD g 1 0) 0x01 && not (eqb (getD g 4 0) 0))
-    (cond (eqb (getD g 5 0) (headerSum g)) (cond (lengthOk (stated g)) (inBody (stated g) g, none) (hunting, some (refusedFrame 10 g))) (hunting, some (refusedFrame 8 g)))
-    (hunting, some (refusedFrame 9 g))
+enter g = cond (eqb (headerFault g) 0) (inBody (stated g) g, none) (hunting, some (refusedFrame (headerFault g) g))
 
 -- the last byte of a body of k: 8 where the check value differs
 abbrev pub finish : ℕ → List ℕ → Segment Message

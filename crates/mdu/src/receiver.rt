@@ -17,7 +17,7 @@ ghost use Rattle.runs.specs.Runs.{over};
 ghost use Rattle.framing.specs.Receiver.{feed};
 ghost use Rattle.framing.specs.Segment.{eventOf};
 ghost use Rattle.framing.specs.Link.{isEvent, told, stepOn, reported};
-ghost use Rattle.mdu.specs.Rules.{hunting, inHeader, inBody, size, enter, finish, onByte};
+ghost use Rattle.mdu.specs.Rules.{hunting, inHeader, inBody, size, headerFault, enter, finish, onByte};
 ghost use Rattle.mdu.specs.Contract.{knownState, phaseOf, front, link, toldOf, receivedOf};
 ghost use Rattle.mdu.specs.Steps.{endedWith, goneOn, ByRules, Open, ToCome, AtLast, Passes};
 
@@ -116,27 +116,40 @@ fn joined(high: u8, low: u8) -> usize
     (high as usize) * 256 + (low as usize)
 }
 
+// The number of the first test that a header fails, 0 where it passes all.
+fn header_fault(gathered: &[u8]) -> u8
+    requires { ⌜ 6 ≤ length (now gathered) ⌝ }
+    ensures { λ r. ⌜ r ≡ headerFault (now (gathered .entry)) ⌝ }
+{
+    if gathered[1] != 0x01 {
+        return framing::refusal::WRONG_FIELD;
+    }
+    let address = gathered[4];
+    if address == 0 {
+        return framing::refusal::WRONG_FIELD;
+    }
+    let high = gathered[2];
+    let low = gathered[3];
+    if gathered[5] != header::header_sum(gathered[0], gathered[1], high, low, address) {
+        return framing::refusal::WRONG_CHECK;
+    }
+    if !header::length_ok(joined(high, low)) {
+        return framing::refusal::WRONG_LENGTH;
+    }
+    0
+}
+
 // Byte six: whether a body follows the header.
 fn enter_body(state: State, store: &[u8]) -> Stepped
     requires { ⌜ Open state (now store) ⌝ }
     ensures { λ r. ⌜ ByRules state (enter (take 6 (now (store .entry)))) r ⌝ }
 {
     let base = state.base;
-    if store[1] != 0x01 {
-        return end(base, Event::Refused(framing::refusal::WRONG_FIELD));
+    let fault = header_fault(&store[..6]);
+    if fault != 0 {
+        return end(base, Event::Refused(fault));
     }
-    if store[4] == 0 {
-        return end(base, Event::Refused(framing::refusal::WRONG_FIELD));
-    }
-    if store[5] != header::header_sum(store[0], store[1], store[2], store[3], store[4]) {
-        return end(base, Event::Refused(framing::refusal::WRONG_CHECK));
-    }
-    let length = joined(store[2], store[3]);
-    if header::length_ok(length) {
-        go_on(base, 6, length)
-    } else {
-        end(base, Event::Refused(framing::refusal::WRONG_LENGTH))
-    }
+    go_on(base, 6, joined(store[2], store[3]))
 }
 
 // An open frame below six bytes: the sixth ends the header.

@@ -1,17 +1,17 @@
 -- Packing and unpacking undo each other, and what their results hold.
-use mathlib.Core.Path.{_≡_, refl, sym, ap, _∙_}
+use mathlib.Core.Path.{_≡_, refl, sym, ap, _∙_, subst}
 use mathlib.Core.Bool.{Bool, true, false, cond}
-use mathlib.Core.List.{List, _++_}
+use mathlib.Core.List.{List, [], _∷_, _++_}
 use mathlib.Core.Option.{none, some}
-use Prim.Native.Nat.{ℕ, suc, _+_, _-_, _/_, _≤_, _<_}
+use Prim.Native.Nat.{ℕ, zero, suc, _+_, _-_, _/_, _≤_, _<_, min}
 use native.Mathlib.Omega.{arith}
 use lib.Dec.{lit<}
-use lib.ListN.{length, getD}
+use lib.ListN.{length, getD, drop}
 use Rattle.runs.specs.Runs.{Bytes}
-use Rattle.runs.proofs.Bytes.{bytes-left, bytes-right}
+use Rattle.runs.proofs.Bytes.{bytes-left, bytes-right, bytes-append}
 use Rattle.runs.proofs.Cases.{and-both}
 use Rattle.packing.specs.Packed.{packedGroup, packed}
-use Rattle.packing.specs.Unpacked.{unpackedGroup, dataInGroups, allSent, wellEnded, wellPacked, unpacked}
+use Rattle.packing.specs.Unpacked.{joined, unpackedGroup, unpackedGroups, dataInGroups, allSent, wellEnded, wellPacked, unpacked}
 use Rattle.packing.proofs.Groups.{First, by-groups}
 use Rattle.packing.proofs.Seven.{allSent-at}
 use Rattle.packing.proofs.Group.{length-group, length-unpackedGroup, group-back}
@@ -81,3 +81,19 @@ packed-sent-at d h = allSent-at (packed d) (packed-sent d h)
 
 pub length-unpacked : (p d : List ℕ) → unpacked p ≡ some d → length d ≡ length p - (length p + 7) / 8
 length-unpacked p d e = ap length (sym (unpacked-is p d e .1)) ∙ length-dataOf p
+
+-- unpacked data are bytes
+joined-bytes : (t : ℕ) (g : List ℕ) → Bytes (joined t g)
+unfolding joined
+joined-bytes t [] i = lit< tt
+joined-bytes t (b ∷ g) zero = omega arith
+joined-bytes t (b ∷ g) (suc i) = joined-bytes t g i
+
+groups-bytes : (n : ℕ) (p : List ℕ) → Bytes (unpackedGroups n p)
+unfolding unpackedGroups unpackedGroup
+groups-bytes zero p = λ i. lit< tt
+groups-bytes (suc n) p = bytes-append (unpackedGroup (min 7 (length p - 1)) p) (unpackedGroups n (drop 8 p)) (joined-bytes _ _) (groups-bytes n (drop 8 p))
+
+pub bytes-unpacked : (p d : List ℕ) → unpacked p ≡ some d → Bytes d
+unfolding dataInGroups
+bytes-unpacked p d e = subst Bytes (unpacked-is p d e .1) (groups-bytes ((length p + 7) / 8) p)

@@ -7,9 +7,9 @@ use native.Mathlib.Omega.{arith}
 use lib.ListN.{length, take}
 use borrow.Author.Tests.{le-leb}
 use Rattle.runs.proofs.Cases.{by-eqb}
-use Rattle.framing.specs.State.{knownState, stateOf}
+use Rattle.framing.specs.State.{knownState}
 use Rattle.framing.specs.declared.State.{State}
-use Rattle.framing.proofs.States.{shared-next, shared-leaves}
+use Rattle.framing.proofs.States.{stateOf, shared-next, shared-leaves}
 use Rattle.framing.proofs.Lawful.{Lawful}
 use Rattle.pcs.specs.Frame.{frame}
 use Rattle.pcs.specs.Rules.{Phase, hunting, inside, size, gathered, held}

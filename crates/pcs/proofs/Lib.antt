@@ -1,7 +1,9 @@
--- Of the rules: `Allowed` has what the tests of fields say, `OnByte` what a byte does, `Readback` that frames are read back, `Lawful` all that the
+-- Of the rules: `Allowed` has what the tests of fields say, `Passed` all tests at the end of a frame, `OnByte` what a byte does, `Readback` that frames are read back, `Lawful` all that the
 -- claims need, `Theorems` the claims. Of the code: `And` has chains of tests, `Store` the store after a byte, `Judge` the end of a frame,
 -- `Written` the frame in parts, `Passing` bytes that are passed at once.
 pub mod Allowed
+pub mod Typed
+pub mod Passed
 pub mod OnByte
 pub mod Readback
 pub mod Lawful

@@ -8,8 +8,8 @@ use native.Mathlib.Omega.{arith}
 use lib.ListN.{length, getD, take, drop, length-append, length-take, length-drop}
 use lib.Seq.{take-suc, take-all, take-add, take-append-seam}
 use borrow.Author.Tests.{le-leb}
-use Rattle.runs.specs.Runs.{over}
-use Rattle.runs.proofs.Cases.{by-test, by-eqb, by-ltb}
+use Rattle.runs.specs.Runs.{Bytes, over}
+use Rattle.runs.proofs.Cases.{by-eqb, by-ltb}
 use Rattle.framing.specs.Segment.{Segment, refusedFrame, acceptedFrame, noiseAfter}
 use Rattle.framing.proofs.Byte.{data-stands, Reached, Takes, goes-on, restarts, closes, Ends, by-end, ends-quiet}
 use Rattle.packing.specs.Seven.{sent}
@@ -17,12 +17,14 @@ use Rattle.packing.specs.Packed.{packed}
 use Rattle.packing.specs.Unpacked.{unpacked}
 use Rattle.packing.proofs.Seven.{value-sent}
 use Rattle.packing.proofs.Lengths.{length-packed}
-use Rattle.packing.proofs.Laws.{packed-unpacked}
+use Rattle.packing.proofs.Laws.{packed-unpacked, bytes-unpacked}
 use Rattle.checksum.specs.Sum.{sumOf}
 use Rattle.pcs.specs.Frame.{Message, ok, body, frame}
-use Rattle.pcs.specs.Rules.{Phase, hunting, inside, size, gathered, held, stated, packedPart, asksCrc, fieldsOk, messageWith, unpack, judge, onByte}
+use Rattle.pcs.specs.Rules.{Phase, hunting, inside, size, gathered, held, stated, packedPart, faultOf, messageWith, unpack, judge, onByte}
 use Rattle.pcs.specs.Contract.{frontOf, numbersOf, messageOf, link}
 use Rattle.pcs.proofs.Allowed.{kind-same, Allowed, allowed, sendable}
+use Rattle.pcs.proofs.Typed.{typed}
+use Rattle.pcs.proofs.Passed.{Passed, passed}
 
 -- no more is gathered than the store holds
 abbrev pub reached : Reached link
@@ -61,33 +63,38 @@ last-is : (g : List ℕ) → 1 ≤ length g → take (length g - 1) g ++ (getD g
 last-is g h = sym (take-suc g (length g - 1) 0 (omega arith)) ∙ take-all (suc (length g - 1)) g (omega arith)
 
 -- a frame that passed every test
-module _ (g : List ℕ) (long : 9 ≤ length g) (short : length g ≤ size) (f : Allowed g) (n : stated g ≡ length g - 9)
-    (s : getD g (length g - 1) 0 ≡ sumOf (take (length g - 1) g)) (d : List ℕ) (u : unpacked (packedPart g) ≡ some d) where
+module _ (g : List ℕ) (p : Passed g) (short : length g ≤ size) (d : List ℕ) (u : unpacked (packedPart g) ≡ some d) where
+  f : Allowed g
+  f = allowed g (p .fields)
+
+  long : 9 ≤ length g
+  long = p .long
+
   packed-is : packed d ≡ packedPart g
   packed-is = packed-unpacked (packedPart g) d u
 
   size-is : length (packed d) ≡ stated g
-  size-is = ap length packed-is ∙ simp (length-take, length-drop) (omega arith)
+  size-is = ap length packed-is ∙ simp (length-take, length-drop) (omega (arith, long, p .present))
 
   body-is : body (messageWith g d) ≡ take (length g - 1) g
   body-is =
-      let k : length g - 1 ≡ 8 + (length g - 9) = omega arith in
+      let k : length g - 1 ≡ 8 + (length g - 9) = omega (arith, long) in
       let i : 4 + (getD g 2 0 - 4) ≡ getD g 2 0 = omega (arith, f .info) in
       let h : length (packed d) / 128 ≡ getD g 4 0 % 128 = omega (arith, size-is) in
       let l : length (packed d) % 128 ≡ getD g 5 0 % 128 = omega (arith, size-is) in
       let a : sent (length (packed d) / 128) ≡ getD g 4 0 = ap sent h ∙ value-sent (getD g 4 0) (f .high) in
       let b : sent (length (packed d) % 128) ≡ getD g 5 0 = ap sent l ∙ value-sent (getD g 5 0) (f .low) in
       (λ j. getD g 0 0 ∷ getD g 1 0 ∷ i j ∷ getD g 3 0 ∷ a j ∷ b j ∷ getD g 6 0 ∷ getD g 7 0 ∷ packed-is j)
-      ∙ sym (ap (λ (x : List ℕ). x ++ packedPart g) (first-eight g (omega arith)))
+      ∙ sym (ap (λ (x : List ℕ). x ++ packedPart g) (first-eight g (omega (arith, long))))
       ∙ sym (take-add 8 (length g - 9) g)
       ∙ ap (λ (x : ℕ). take x g) (sym k)
 
   frame-is : frame (messageWith g d) ≡ 253 ∷ g ++ (254 ∷ [])
   frame-is =
       ap (λ (x : List ℕ). 253 ∷ (x ++ (sumOf x ∷ 254 ∷ []))) body-is
-      ∙ ap (λ (x : ℕ). 253 ∷ (take (length g - 1) g ++ (x ∷ 254 ∷ []))) (sym s)
+      ∙ ap (λ (x : ℕ). 253 ∷ (take (length g - 1) g ++ (x ∷ 254 ∷ []))) (sym (p .checked))
       ∙ ap (λ (x : List ℕ). 253 ∷ x) (sym (append-assoc (take (length g - 1) g) (getD g (length g - 1) 0 ∷ []) (254 ∷ [])))
-      ∙ ap (λ (x : List ℕ). 253 ∷ (x ++ (254 ∷ []))) (last-is g (omega arith))
+      ∙ ap (λ (x : List ℕ). 253 ∷ (x ++ (254 ∷ []))) (last-is g (omega (arith, long)))
 
   may-send : ok (messageWith g d) ≡ true
   may-send =
@@ -99,30 +106,20 @@ module _ (g : List ℕ) (long : 9 ≤ length g) (short : length g ≤ size) (f :
         f .sender-port,
         f .receiver-port,
         kind-same (getD g 2 0 - 4) (stated g) (length d) (λ z. omega (arith, size-is)) (f .kind),
-        le-leb (length d) 1024 (omega (arith, size-is)),
+        le-leb (length d) 1024 (omega (arith, size-is, p .present)),
       )
 
 -- the end of a frame: an accepted message has the gathered bytes between its marks
-abbrev Judged : List ℕ → Message → Type 0
-Judged g m = length g ≤ size → (frame m ≡ 253 ∷ g ++ (254 ∷ [])) × (ok m ≡ true)
+abbrev pub Judged : List ℕ → Message → Type 0
+Judged g m = length g ≤ size → (frame m ≡ 253 ∷ g ++ (254 ∷ [])) × (ok m ≡ true) × Bytes (m .payload)
 
-judge-ends : (g w : List ℕ) → Ends (Judged g) w (judge g w)
+pub judge-ends : (g w : List ℕ) → Ends (Judged g) w (judge g w)
 judge-ends g w =
-    by-ltb P (length g) 9 (λ _. refl) (λ l.
-    by-test P (asksCrc g) (λ _. refl) (λ _.
-    by-eqb P (getD g (length g - 1) 0) (sumOf (take (length g - 1) g))
-    (λ s. by-test P (fieldsOk g)
-    (λ f. by-eqb P (stated g) (length g - 9) (λ n. unpack-ends l (allowed g f) n s (unpacked (packedPart g)) refl) (λ _. refl))
-    (λ _. refl))
-    (λ _. refl)))
+    by-eqb (Ends (Judged g) w) (faultOf g) 0 (λ z. unpack-ends (passed g z) (unpacked (packedPart g)) refl) (λ _. refl)
   where
-    P : Segment Message → Type 0
-    P = Ends (Judged g) w
-
-    unpack-ends : 9 ≤ length g → Allowed g → stated g ≡ length g - 9 → getD g (length g - 1) 0 ≡ sumOf (take (length g - 1) g)
-        → (o : Option (List ℕ)) → unpacked (packedPart g) ≡ o → P (unpack g w o)
-    unpack-ends l f n s none u = refl
-    unpack-ends l f n s (some d) u = λ h. (frame-is g l h f n s d u, may-send g l h f n s d u)
+    unpack-ends : Passed g → (o : Option (List ℕ)) → unpacked (packedPart g) ≡ o → Ends (Judged g) w (unpack g w o)
+    unpack-ends p none u = refl
+    unpack-ends p (some d) u = λ h. (frame-is g p h d u, may-send g p h d u, bytes-unpacked (packedPart g) d u)
 
 pub judge-noise : (g w : List ℕ) (n : ℕ) → noiseAfter (some (judge g w)) n ≡ n
 judge-noise g w n = ends-quiet (Judged g) w (judge g w) (judge-ends g w) n
@@ -146,7 +143,7 @@ judge-takes g w h e =
     by-end (λ (s : Segment Message). Next g w (hunting, some s)) (Judged g) w (judge g w) (judge-ends g w)
     (λ n. closes reached g w [] (refusedFrame n w) refl (omega arith) tt)
     (λ m t. closes reached g w (m .payload) (acceptedFrame m) (t h .0 ∙ e) (omega (arith, sendable m (t h .1) .most))
-    (record { may = t h .1; read = λ store _. read-back m store; hunts = refl }))
+    (record { may = t h .1; typed = λ _. typed m (t h .1) (t h .2); read = λ store _. read-back m store; hunts = refl }))
 
 pub takes : (p : Phase) (b : ℕ) → length (gathered p) ≤ size → Next (gathered p) (held p ++ (b ∷ [])) (onByte p b)
 takes hunting b h =

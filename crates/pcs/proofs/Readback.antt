@@ -8,14 +8,14 @@ use native.Mathlib.Omega.{arith}
 use lib.Dec.{eqb, lit<}
 use lib.ListN.{length, getD, take, length-append}
 use lib.Seq.{append-snoc, take-at, getD-at}
-use borrow.Author.Tests.{le-ltb, lt-ltb, le-leb, lt-leb, eq-eqb, ne-eqb, eqb-true}
+use borrow.Author.Tests.{lt-ltb, le-leb, lt-leb, eq-eqb, ne-eqb, eqb-true}
 use Rattle.runs.specs.Runs.{Bytes}
 use Rattle.runs.proofs.Bytes.{bytes-append, bytes-one, bytes-more}
 use Rattle.framing.specs.Claims.{AllOf}
 use Rattle.framing.specs.Receiver.{feed}
-use Rattle.framing.specs.Segment.{Segment, acceptedFrame, message, step}
+use Rattle.framing.specs.Segment.{Segment, acceptedFrame, message}
 use Rattle.framing.proofs.Feed.{Quiet, quiet-nil, quiet-cons, feed-event}
-use Rattle.framing.proofs.Segments.{step-open, step-accept}
+use Rattle.framing.proofs.Segments.{step, step-open, step-accept}
 use Rattle.framing.proofs.Lawful.{at}
 use Rattle.packing.specs.Seven.{sent}
 use Rattle.packing.specs.Packed.{packed}
@@ -26,8 +26,9 @@ use Rattle.packing.proofs.Laws.{unpacked-packed, packed-sent-at}
 use Rattle.checksum.specs.Sum.{sumOf}
 use Rattle.checksum.proofs.SumRange.{sum-range}
 use Rattle.pcs.specs.Frame.{Message, Typed, plainOk, receiverOk, ok, body, frame}
-use Rattle.pcs.specs.Rules.{hunting, inside, size, stated, packedPart, fieldsOk, unpack, judge, onByte}
+use Rattle.pcs.specs.Rules.{hunting, inside, size, stated, packedPart, fieldsOk, faultOf, unpack, judge, onByte}
 use Rattle.pcs.proofs.Allowed.{kind-same, kind-most, plain-most, Sendable, sendable}
+use Rattle.pcs.proofs.Passed.{Passed, no-fault}
 
 -- a byte that is gathered in an open frame
 abbrev Inner : ℕ → Type 0
@@ -155,16 +156,22 @@ module _ (m : Message) (y : Bytes (m .payload)) (s : Sendable m) where
       )
       (kind-same (m .kind) (length (m .payload)) (length (packed (m .payload))) (λ z. omega (arith, length-packed (m .payload))) (s .kind))
 
+  -- below 12 no CRC is asked for
+  passes : Passed run
+  unfolding run
+  passes =
+      record {
+        long = omega (arith, run-length);
+        plain = rw (lt-leb 12 (4 + m .kind) (omega (arith, kind-most (m .kind) (length (m .payload)) (s .kind))));
+        checked = sum-last ∙ ap sumOf (sym body-front);
+        fields = fields-pass;
+        present = stated-is ∙ omega (arith, run-length);
+      }
+
   accepts : (w : List ℕ) → judge run w ≡ acceptedFrame m
   unfolding run
   accepts w =
-      rw (
-        le-ltb (length run) 9 (omega (arith, run-length)),
-        lt-leb 12 (4 + m .kind) (omega (arith, kind-most (m .kind) (length (m .payload)) (s .kind))),
-        eq-eqb (getD run (length run - 1) 0) (sumOf (take (length run - 1) run)) (sum-last ∙ ap sumOf (sym body-front)),
-        fields-pass,
-        eq-eqb (stated run) (length run - 9) (stated-is ∙ omega (arith, run-length)),
-      )
+      rw (eq-eqb (faultOf run) 0 (no-fault run passes))
       (ap (unpack run w) (ap unpacked packed-front ∙ unpacked-packed (m .payload) y) ∙ rw kind-is)
 
   reads-run : (rest : List ℕ) (n : ℕ)

@@ -1,11 +1,10 @@
 -- What the private functions answer: the steps of a call.
-use Prim.Native.Nat.{ℕ, _-_, _≤_}
+use Prim.Native.Nat.{ℕ, _≤_}
 use mathlib.Core.Path.{_≡_}
-use mathlib.Core.Bool.{Bool, cond, _&&_}
+use mathlib.Core.Bool.{Bool, _&&_}
 use mathlib.Core.List.{List}
 use mathlib.Core.Option.{Option}
 use lib.ListN.{length}
-use lib.Dec.{eqb, ltb}
 use Rattle.framing.specs.Answer.{Outcome, done, refused}
 use Rattle.framing.specs.Segment.{Segment, eventOf}
 use Rattle.framing.specs.State.{stateAfter}
@@ -15,7 +14,7 @@ use Rattle.framing.specs.Passing.{Leads}
 use Rattle.framing.specs.declared.State.{State}
 use Rattle.pcs.specs.Frame.{plainOk, receiverOk}
 use Rattle.pcs.specs.Frame as Frame
-use Rattle.pcs.specs.Rules.{Phase, size, gathered, held, stated, asksCrc, sumRight, fieldsOk}
+use Rattle.pcs.specs.Rules.{Phase, size, gathered, held}
 use Rattle.pcs.specs.Contract.{modeOf, link, toldOf}
 use Rattle.pcs.specs.declared.Message.{Message}
 use Rattle.pcs.specs.declared.Stepped.{Stepped}
@@ -38,12 +37,6 @@ withData m d =
 abbrev pub plainFieldsOk : Message → Bool
 plainFieldsOk m =
     receiverOk (m .receiver) && (plainOk (m .sender) && (plainOk (m .number) && (plainOk (m .«sender_port») && plainOk (m .«receiver_port»))))
-
--- the first test before unpacking that gathered bytes fail, 0 where they pass all
-unfoldable pub faultOf : List ℕ → ℕ
-faultOf g =
-    cond (ltb (length g) 9) 6
-    (cond (asksCrc g) 11 (cond (sumRight g) (cond (fieldsOk g) (cond (eqb (stated g) (length g - 9)) 0 10) 9) 8))
 
 -- what is told of numbers once the data are unpacked, or badly packed
 abbrev pub toldWith : Message → Outcome ℕ → Told Message

@@ -18,9 +18,9 @@ ghost use Rattle.framing.specs.Receiver.{feed};
 ghost use Rattle.framing.specs.Segment.{eventOf};
 ghost use Rattle.framing.specs.Link.{isEvent, told, stepOn, reported, receives};
 ghost use Rattle.pcs.specs.Frame.{ok, frame};
-ghost use Rattle.pcs.specs.Rules.{hunting, inside, size, fieldsOk, messageWith, judge, gather, onByte};
+ghost use Rattle.pcs.specs.Rules.{hunting, inside, size, fieldsOk, faultOf, messageWith, judge, gather, onByte};
 ghost use Rattle.pcs.specs.Contract.{phaseOf, frontOf, numbersOf, dataOf, link, toldOf, receivedOf};
-ghost use Rattle.pcs.specs.Steps.{faultOf, toldWith, ByRules, Open, Passes};
+ghost use Rattle.pcs.specs.Steps.{toldWith, ByRules, Open, Passes};
 
 // The least store of a receiver: a header of 8 bytes, at most 1,171 packed bytes, the sum.
 const SIZE: usize = 1180;
@@ -166,15 +166,13 @@ fn fault_of(gathered: &[u8]) -> u8
     if gathered[end] != checksum::sum(&gathered[..end]) {
         return refusal::WRONG_CHECK;
     }
-    if fields_ok(gathered) {
-        if fields::stated_by(gathered[4], gathered[5]) == count - 9 {
-            0
-        } else {
-            refusal::WRONG_LENGTH
-        }
-    } else {
-        refusal::WRONG_FIELD
+    if !fields_ok(gathered) {
+        return refusal::WRONG_FIELD;
     }
+    if fields::stated_by(gathered[4], gathered[5]) != count - 9 {
+        return refusal::WRONG_LENGTH;
+    }
+    0
 }
 
 // What is told of a frame once its data are unpacked, or badly packed.

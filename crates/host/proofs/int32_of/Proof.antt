@@ -7,20 +7,11 @@ use borrow.Author.Needs.{needs}
 use Rattle.host.proofs.int32_of.Statement.{statement}
 use Rattle.host.proofs.int32_of.Tie as tie
 
-enum-known-answer : tie.Need-enum-known-answer
-enum-known-answer c = search needs
-
 short-length : (c : tie.After-known-told) → c .before .answer .given .0 .0 < 2 ^ 31
 short-length c = rw (c .before .answer .given .1) at (c .before .before .before .pre)
 
 cast-result : tie.Need-cast-result
 cast-result c = record { sfits = short-length c }
-
-enum-known-answer-2 : tie.Need-enum-known-answer-2
-enum-known-answer-2 c = search needs
-
-cast-result-2 : tie.Need-cast-result-2
-cast-result-2 c = search needs
 
 returns : tie.Need-returns
 returns c = rw (c .before .answer .given .1) (toZ-pos w32 _ (short-length c))
@@ -33,12 +24,4 @@ sub-result c = minus-fits (c .before .answer2 .given .0 .0) (omega (arith, c .kn
 
 pub int32-of-spec : {M : Type 1} → statement M
 int32-of-spec =
-    tie.close
-    (tie.spec
-    enum-known-answer
-    cast-result
-    enum-known-answer-2
-    cast-result-2
-    sub-result
-    returns
-    returns-2)
+    tie.close (tie.spec (λ c. search needs) cast-result (λ c. search needs) (λ c. search needs) sub-result returns returns-2)

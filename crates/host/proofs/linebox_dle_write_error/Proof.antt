@@ -7,12 +7,6 @@ use borrow.Author.Needs.{needs}
 use Rattle.host.proofs.linebox_dle_write_error.Statement.{statement}
 use Rattle.host.proofs.linebox_dle_write_error.Tie as tie
 
-write-error-requires : tie.Need-write-error-requires
-write-error-requires c κs = search needs
-
-same-length : tie.Need-same-length
-same-length c = search needs
-
 returns : tie.Need-returns
 returns c =
     let a = c .before .before .before .before .before .before .args in
@@ -27,4 +21,4 @@ int32-of-requires c κs =
 
 pub linebox-dle-write-error-spec : {M : Type 1} → statement M
 linebox-dle-write-error-spec =
-    tie.close (tie.spec write-error-requires int32-of-requires same-length returns)
+    tie.close (tie.spec (λ c κs. search needs) int32-of-requires (λ c. search needs) returns)

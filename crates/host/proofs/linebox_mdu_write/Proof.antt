@@ -6,12 +6,6 @@ use borrow.Author.Needs.{needs}
 use Rattle.host.proofs.linebox_mdu_write.Statement.{statement}
 use Rattle.host.proofs.linebox_mdu_write.Tie as tie
 
-write-requires : tie.Need-write-requires
-write-requires c κs = search needs
-
-same-length : tie.Need-same-length
-same-length c = search needs
-
 returns : tie.Need-returns
 returns c =
     let a = c .before .before .before .before .before .before .before .args in
@@ -25,4 +19,4 @@ int32-of-requires c κs =
     (now (a .out)) (c .before .before .write .ensures)
 
 pub linebox-mdu-write-spec : {M : Type 1} → statement M
-linebox-mdu-write-spec = tie.close (tie.spec write-requires int32-of-requires same-length returns)
+linebox-mdu-write-spec = tie.close (tie.spec (λ c κs. search needs) int32-of-requires (λ c. search needs) returns)

@@ -5,9 +5,11 @@ use lib.Seq.{length-take-le}
 use borrow.Author.Needs.{needs}
 use Rattle.framing.specs.Answer.{outcomeOf}
 use Rattle.framing.specs.Link.{refused}
-use Rattle.pcs.specs.Steps.{faultOf, toldWith}
+use Rattle.pcs.specs.Rules.{faultOf}
+use Rattle.pcs.specs.Steps.{toldWith}
 use Rattle.pcs.specs.declared.Message.{Message}
-use Rattle.pcs.proofs.Judge.{fault-long, judge-fault, judge-told, judge-stored}
+use Rattle.pcs.proofs.Passed.{passed}
+use Rattle.pcs.proofs.Judge.{judge-fault, judge-told, judge-stored}
 use Rattle.pcs.proofs.judge_frame.Statement.{statement}
 use Rattle.pcs.proofs.judge_frame.Tie as tie
 
@@ -45,12 +47,12 @@ slice-aggregate-head-of c =
 head-of-requires : tie.Need-head-of-requires
 head-of-requires c κs =
     let a = c .before .before .before .before .before .args in
-    fault-long (take (a .count) (a .store .now)) (sym (c .before .before .fault-of .ensures) ∙ c .before .if1 .left)
+    passed (take (a .count) (a .store .now)) (sym (c .before .before .fault-of .ensures) ∙ c .before .if1 .left) .long
 
 sub-unpack-in-place : tie.Need-sub-unpack-in-place
 sub-unpack-in-place c =
     let a = c .before .before .before .before .before .before .before .args in
-    rw (length-take-le (a .count) (a .store .now) (omega arith)) at (fault-long (take (a .count) (a .store .now)) (sym (c .before .before .before .before .fault-of .ensures) ∙ c .before .before .before .if1 .left))
+    rw (length-take-le (a .count) (a .store .now) (omega arith)) at (passed (take (a .count) (a .store .now)) (sym (c .before .before .before .before .fault-of .ensures) ∙ c .before .before .before .if1 .left) .long)
 
 unpack-in-place-requires : tie.Need-unpack-in-place-requires
 unpack-in-place-requires c κs = search needs
