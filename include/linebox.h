@@ -10,8 +10,8 @@
  * called from several threads at once as long as they lend different memory.
  *
  * Memory. `out` and `store` are lent: while the call lasts nothing else reads or writes them, and they overlap no other
- * argument. The other runs of bytes are only read. A length of 0 takes any pointer, NULL too; with any other length the
- * pointer is to that many bytes.
+ * argument. The other runs of bytes are only read: while the call lasts others may read them too, but nothing writes them.
+ * A length of 0 takes any pointer, NULL too; with any other length the pointer is to that many bytes.
  *
  * Single numbers are bytes. A byte that a link does not allow is refused by the call. A larger number that C is given for
  * such a parameter is cut to its lowest eight bits by the language, before the call: test it first where that can happen.
@@ -25,6 +25,11 @@
 #ifdef __cplusplus
 extern "C" {
 #endif
+
+/* The version of this interface: 1,000 times the major number, and the minor one. The minor number grows with what is added
+ * here, the major one when something that stood here changes: a number, a name, or what a call answers or leaves for some
+ * arguments. The library carries no number of its own: link the one that was built beside this header. */
+#define LINEBOX_VERSION 1000
 
 /* ---- Refusals: why a call was not done. 0 is no refusal. */
 enum {
@@ -46,11 +51,24 @@ enum {
 /* ---- Writers
  *
  * Each writes the frame of one message at the start of `out` and answers its length in bytes, which is above 0 and at
- * most LINEBOX_LONGEST. What lies in `out` behind the frame stays as it was.
+ * most LINEBOX_.._LONGEST. What lies in `out` behind the frame stays as it was.
  * A negative answer is minus the number of a refusal, and `out` is unchanged: -LINEBOX_UNSENDABLE, which is tested
- * first, or -LINEBOX_OUTPUT_SHORT. `out` of LINEBOX_LONGEST bytes is never too short.
+ * first, or -LINEBOX_OUTPUT_SHORT. `out` of LINEBOX_.._LONGEST bytes is never too short.
  */
+
+/* The longest frame of each link, in wire bytes: some message takes as many. LINEBOX_LONGEST is enough on every link, and the
+ * bound that is proved; the others are added up from the rules and tried. */
+#define LINEBOX_PCS_LONGEST 1182       /* two marks, 8 of header, 1,171 that carry 1,024 of data, the sum */
+#define LINEBOX_MDU_LONGEST 1033       /* 6 of header, the body, the CRC of 2 */
+#define LINEBOX_DLE_LONGEST 519        /* two marks of 2; sequence, node and data doubled, 514; the length, 255, is not */
+#define LINEBOX_EXPANSION_LONGEST 2064 /* two marks; id, address, data and the CRC escaped, 2,060; type and repeat are not */
 #define LINEBOX_LONGEST 2066
+
+/* The largest data of a message of each link, in bytes. */
+#define LINEBOX_PCS_MAX_DATA 1024
+#define LINEBOX_MDU_MAX_DATA 1025 /* the body: the type byte, then the data */
+#define LINEBOX_DLE_MAX_DATA 255
+#define LINEBOX_EXPANSION_MAX_DATA 1024
 
 /* receiver 1 to 250, or 255 for all; sender, number, sender_port and receiver_port 1 to 250; kind one of
  * LINEBOX_PCS_..; data of 0 to 1,024 bytes, and none with the two acknowledgements. */
@@ -101,9 +119,16 @@ int32_t linebox_expansion_write(uint8_t id, uint8_t type, uint8_t repeat, uint8_
  * The store is where the frame is gathered. It has to have LINEBOX_.._STORE bytes at least, and may hold anything. After
  * a message was read its data lies in the store from place LINEBOX_.._DATA on, until the store is used again; a DLE error
  * message has no data.
- * A store that is too short is left unchanged. Any other refusal leaves in the store what was gathered of the frame, which
- * is of use in one case: after LINEBOX_WRONG_CHECK on the expansion link store[0] is the id and store[3] the address as they
- * arrived, for a reply of type LINEBOX_EXPANSION_CHECK_ERROR.
+ *
+ * What else a call leaves. A store that is too short is left unchanged. In every other case, a refusal too, the run is gone
+ * through up to the first frame in it that is accepted or refused, or to the end of the run. What was gathered of that frame,
+ * or of one that the run leaves open, lies in the store from place 0 on (PCS: the bytes between the marks; MDU: the frame
+ * itself; DLE and expansion: the bytes between the marks, with no escapes). Then an accepted PCS frame has its unpacked data
+ * put over the first of them. No other place is written.
+ * A frame that is accepted is not always told as a message: with a byte before it or behind it the answer is
+ * LINEBOX_TOO_SHORT, and the store is left as the accepted frame leaves it, on PCS with the unpacked data.
+ * After LINEBOX_WRONG_CHECK on the expansion link store[0] is the id and store[3] the address as they arrived, for a reply of
+ * type LINEBOX_EXPANSION_CHECK_ERROR.
  *
  * A frame is read as exactly the message that the writer makes that frame of, and nothing else is read as a message.
  */
@@ -126,16 +151,16 @@ uint64_t linebox_expansion_read(const uint8_t *frame, size_t frame_len, uint8_t 
  * of a link only for an answer of that link's read. The data itself is in the store, at LINEBOX_.._DATA. */
 
 /* the number of the refusal, or 0 */
-static inline unsigned linebox_refusal(uint64_t r) { return (unsigned)(r & 0xFF); }
+static inline unsigned linebox_refusal(uint64_t r) { return r & 0xFF; }
 
 /* the length of the data */
-static inline size_t linebox_length(uint64_t r) { return (size_t)(r >> 8 & 0xFFF); }
+static inline size_t linebox_length(uint64_t r) { return r >> 8 & 0xFFF; }
 
 /* the two bits of the kind; the accessors of PCS and DLE below say what they mean */
-static inline unsigned linebox_kind(uint64_t r) { return (unsigned)(r >> 20 & 3); }
+static inline unsigned linebox_kind(uint64_t r) { return r >> 20 & 3; }
 
 /* field number i, 0 to 4: a higher i is not allowed */
-static inline uint8_t linebox_field(uint64_t r, unsigned i) { return (uint8_t)(r >> (24 + 8 * i) & 0xFF); }
+static inline uint8_t linebox_field(uint64_t r, unsigned i) { return r >> (24 + 8 * i) & 0xFF; }
 
 /* PCS: the kind, one of LINEBOX_PCS_.., and the five fields as linebox_pcs_write takes them */
 static inline unsigned linebox_pcs_kind(uint64_t r) { return linebox_kind(r); }

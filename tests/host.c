@@ -14,6 +14,13 @@ static int failures;
         }                                                      \
     } while (0)
 
+/* a cast that neither language warns of */
+#ifdef __cplusplus
+#define CAST(type, x) static_cast<type>(x)
+#else
+#define CAST(type, x) ((type)(x))
+#endif
+
 #define MARK 0xA5 /* what lent memory holds before a call */
 
 static uint8_t out[LINEBOX_LONGEST + 2], store[LINEBOX_PCS_STORE + 2], data[1026];
@@ -30,13 +37,16 @@ static void fresh(void) {
     memset(store, MARK, sizeof store);
 }
 
+/* memory holds these n bytes at its start, and behind them is as it was */
+static int holds(const uint8_t *memory, const uint8_t *bytes, size_t n, size_t size) { return !memcmp(memory, bytes, n) && kept(memory, n, size); }
+
 /* the acknowledgement frame of document 000 */
 static const uint8_t acknowledgement[] = {253, 250, 101, 6, 2, 128, 128, 1, 1, 105, 254};
 
 static void pcs_reads_back(void) {
     fresh();
     int32_t n = linebox_pcs_write(250, 101, LINEBOX_PCS_POSITIVE, 2, 1, 1, NULL, 0, out, sizeof out);
-    CHECK(n == (int32_t)sizeof acknowledgement && !memcmp(out, acknowledgement, sizeof acknowledgement));
+    CHECK(n == CAST(int32_t, sizeof acknowledgement) && !memcmp(out, acknowledgement, sizeof acknowledgement));
     CHECK(kept(out, sizeof acknowledgement, sizeof out));
     uint64_t r = linebox_pcs_read(acknowledgement, sizeof acknowledgement, store, LINEBOX_PCS_STORE);
     CHECK(linebox_refusal(r) == 0 && linebox_length(r) == 0 && linebox_pcs_kind(r) == LINEBOX_PCS_POSITIVE);
@@ -46,7 +56,7 @@ static void pcs_reads_back(void) {
     /* all fields differ; every data byte, and the longest data */
     n = linebox_pcs_write(255, 2, LINEBOX_PCS_ASKS, 3, 4, 5, data, 1024, out, sizeof out);
     CHECK(n == 1182);
-    r = linebox_pcs_read(out, (size_t)n, store, LINEBOX_PCS_STORE);
+    r = linebox_pcs_read(out, CAST(size_t, n), store, LINEBOX_PCS_STORE);
     CHECK(linebox_refusal(r) == 0 && linebox_length(r) == 1024 && linebox_pcs_kind(r) == LINEBOX_PCS_ASKS);
     CHECK(linebox_pcs_receiver(r) == 255 && linebox_pcs_sender(r) == 2 && linebox_pcs_number(r) == 3);
     CHECK(linebox_pcs_sender_port(r) == 4 && linebox_pcs_receiver_port(r) == 5);
@@ -103,7 +113,7 @@ static void mdu_reads_back(void) {
     fresh();
     CHECK(linebox_mdu_write(0x0D, body, 1, out, sizeof out) == 9 && !memcmp(out, mdu_frame, 9) && kept(out, 9, sizeof out));
     uint64_t r = linebox_mdu_read(mdu_frame, 9, store, LINEBOX_MDU_STORE);
-    CHECK(r == ((uint64_t)0x0D << 24 | 1 << 8));
+    CHECK(r == (CAST(uint64_t, 0x0D) << 24 | 1 << 8));
     CHECK(linebox_mdu_address(r) == 0x0D && linebox_length(r) == 1 && store[LINEBOX_MDU_DATA] == 0x31);
     CHECK(!memcmp(store, mdu_frame, 9) && kept(store, 9, sizeof store));
 
@@ -149,13 +159,13 @@ static void dle_reads_back(void) {
     fresh();
     CHECK(linebox_dle_write(0x10, 3, two, 2, out, sizeof out) == 10 && !memcmp(out, dle_frame, 10) && kept(out, 10, sizeof out));
     uint64_t r = linebox_dle_read(dle_frame, 10, store, LINEBOX_DLE_STORE);
-    CHECK(r == ((uint64_t)3 << 32 | (uint64_t)0x10 << 24 | 2 << 8));
+    CHECK(r == (CAST(uint64_t, 3) << 32 | CAST(uint64_t, 0x10) << 24 | 2 << 8));
     CHECK(linebox_dle_sequence(r) == 0x10 && linebox_dle_node(r) == 3 && !linebox_dle_is_error(r) && linebox_length(r) == 2);
     CHECK(!memcmp(store + LINEBOX_DLE_DATA, two, 2));
 
     CHECK(linebox_dle_write_error(7, 8, 9, out, sizeof out) == 8);
     r = linebox_dle_read(out, 8, store, LINEBOX_DLE_STORE);
-    CHECK(r == ((uint64_t)9 << 40 | (uint64_t)8 << 32 | (uint64_t)7 << 24 | 1 << 20));
+    CHECK(r == (CAST(uint64_t, 9) << 40 | CAST(uint64_t, 8) << 32 | CAST(uint64_t, 7) << 24 | 1 << 20));
     CHECK(linebox_dle_is_error(r) && linebox_dle_error(r) == 9 && linebox_length(r) == 0);
 
     uint8_t tens[255];
@@ -195,8 +205,8 @@ static void expansion_reads_back(void) {
     memset(marks, 0xFF, sizeof marks);
     fresh();
     int32_t n = linebox_expansion_write(0xFD, LINEBOX_EXPANSION_REQUEST, 3, 0xFE, marks, 1024, out, sizeof out);
-    CHECK(n > 2050 && n <= LINEBOX_LONGEST && kept(out, (size_t)n, sizeof out));
-    uint64_t r = linebox_expansion_read(out, (size_t)n, store, LINEBOX_EXPANSION_STORE);
+    CHECK(n > 2050 && n <= LINEBOX_LONGEST && kept(out, CAST(size_t, n), sizeof out));
+    uint64_t r = linebox_expansion_read(out, CAST(size_t, n), store, LINEBOX_EXPANSION_STORE);
     CHECK(linebox_refusal(r) == 0 && linebox_length(r) == 1024 && linebox_kind(r) == 0);
     CHECK(linebox_expansion_id(r) == 0xFD && linebox_expansion_type(r) == LINEBOX_EXPANSION_REQUEST);
     CHECK(linebox_expansion_repeat(r) == 3 && linebox_expansion_address(r) == 0xFE && linebox_field(r, 4) == 0);
@@ -204,8 +214,8 @@ static void expansion_reads_back(void) {
 
     n = linebox_expansion_write(1, LINEBOX_EXPANSION_CHECK_ERROR, 0, 2, NULL, 0, out, sizeof out);
     CHECK(n >= 10);
-    r = linebox_expansion_read(out, (size_t)n, store, LINEBOX_EXPANSION_STORE);
-    CHECK(r == ((uint64_t)2 << 48 | (uint64_t)0 << 40 | (uint64_t)2 << 32 | (uint64_t)1 << 24));
+    r = linebox_expansion_read(out, CAST(size_t, n), store, LINEBOX_EXPANSION_STORE);
+    CHECK(r == (CAST(uint64_t, 2) << 48 | CAST(uint64_t, 0) << 40 | CAST(uint64_t, 2) << 32 | CAST(uint64_t, 1) << 24));
 }
 
 static void expansion_not_written(void) {
@@ -222,12 +232,12 @@ static void expansion_refused(void) {
     fresh();
     int32_t n = linebox_expansion_write(1, LINEBOX_EXPANSION_REQUEST, 0, 2, NULL, 0, out, sizeof out);
     out[1] ^= 4;
-    CHECK(linebox_expansion_read(out, (size_t)n, store, sizeof store) == LINEBOX_WRONG_CHECK);
+    CHECK(linebox_expansion_read(out, CAST(size_t, n), store, sizeof store) == LINEBOX_WRONG_CHECK);
     CHECK(store[0] == (1 ^ 4) && store[3] == 2); /* id and address as they arrived */
     out[1] ^= 4;
-    CHECK(linebox_expansion_read(out, (size_t)n, store, LINEBOX_EXPANSION_STORE - 1) == LINEBOX_STORE_SHORT);
-    CHECK(linebox_expansion_read(out, (size_t)n - 1, store, sizeof store) == LINEBOX_TOO_SHORT);
-    CHECK(linebox_expansion_read(out, (size_t)n + 1, store, sizeof store) == LINEBOX_TOO_SHORT);
+    CHECK(linebox_expansion_read(out, CAST(size_t, n), store, LINEBOX_EXPANSION_STORE - 1) == LINEBOX_STORE_SHORT);
+    CHECK(linebox_expansion_read(out, CAST(size_t, n) - 1, store, sizeof store) == LINEBOX_TOO_SHORT);
+    CHECK(linebox_expansion_read(out, CAST(size_t, n) + 1, store, sizeof store) == LINEBOX_TOO_SHORT);
     static const uint8_t shortest[] = {0xFD, 0xFE}, start[] = {0xFD, 1, 0xFD}, code[] = {0xFD, 0xFF, 3};
     CHECK(linebox_expansion_read(shortest, 2, store, sizeof store) == LINEBOX_TOO_SHORT);
     CHECK(linebox_expansion_read(start, 3, store, sizeof store) == LINEBOX_NEW_START);
@@ -235,8 +245,82 @@ static void expansion_refused(void) {
     CHECK(linebox_expansion_read(NULL, 0, store, sizeof store) == LINEBOX_TOO_SHORT);
 }
 
+/* some message of each link takes the longest frame, and one byte less of memory is too short for it; no larger data is sent */
+static void longest_frames(void) {
+    uint8_t most[LINEBOX_MDU_MAX_DATA + 1];
+    fresh();
+    memset(most, 0x10, sizeof most);
+#define PCS(n, room) linebox_pcs_write(1, 1, LINEBOX_PCS_PLAIN, 1, 1, 1, most, n, out, room)
+    CHECK(PCS(LINEBOX_PCS_MAX_DATA + 1, sizeof out) == -LINEBOX_UNSENDABLE);
+    CHECK(PCS(LINEBOX_PCS_MAX_DATA, LINEBOX_PCS_LONGEST - 1) == -LINEBOX_OUTPUT_SHORT && kept(out, 0, sizeof out));
+    CHECK(PCS(LINEBOX_PCS_MAX_DATA, LINEBOX_PCS_LONGEST) == LINEBOX_PCS_LONGEST);
+    fresh();
+#define MDU(n, room) linebox_mdu_write(1, most, n, out, room)
+    CHECK(MDU(LINEBOX_MDU_MAX_DATA + 1, sizeof out) == -LINEBOX_UNSENDABLE);
+    CHECK(MDU(LINEBOX_MDU_MAX_DATA, LINEBOX_MDU_LONGEST - 1) == -LINEBOX_OUTPUT_SHORT && kept(out, 0, sizeof out));
+    CHECK(MDU(LINEBOX_MDU_MAX_DATA, LINEBOX_MDU_LONGEST) == LINEBOX_MDU_LONGEST);
+    fresh();
+#define DLE(n, room) linebox_dle_write(0x10, 0x10, most, n, out, room)
+    CHECK(DLE(LINEBOX_DLE_MAX_DATA + 1, sizeof out) == -LINEBOX_UNSENDABLE);
+    CHECK(DLE(LINEBOX_DLE_MAX_DATA, LINEBOX_DLE_LONGEST - 1) == -LINEBOX_OUTPUT_SHORT && kept(out, 0, sizeof out));
+    CHECK(DLE(LINEBOX_DLE_MAX_DATA, LINEBOX_DLE_LONGEST) == LINEBOX_DLE_LONGEST);
+    fresh();
+    /* data of escaped bytes alone, whose CRC has four escaped bytes too */
+    static const uint8_t last[] = {0xFD, 0xFF, 0xFF, 0xFD, 0xFE, 0xFF, 0xFD, 0xFE, 0xFE, 0xFD, 0xFE, 0xFD, 0xFF, 0xFD, 0xFD, 0xFD};
+    memset(most, 0xFF, sizeof most);
+    memcpy(most + LINEBOX_EXPANSION_MAX_DATA - sizeof last, last, sizeof last);
+#define EXPANSION(n, room) linebox_expansion_write(0xFF, LINEBOX_EXPANSION_REQUEST, 0, 0xFF, most, n, out, room)
+    CHECK(EXPANSION(LINEBOX_EXPANSION_MAX_DATA + 1, sizeof out) == -LINEBOX_UNSENDABLE);
+    CHECK(EXPANSION(LINEBOX_EXPANSION_MAX_DATA, LINEBOX_EXPANSION_LONGEST - 1) == -LINEBOX_OUTPUT_SHORT && kept(out, 0, sizeof out));
+    CHECK(EXPANSION(LINEBOX_EXPANSION_MAX_DATA, LINEBOX_EXPANSION_LONGEST) == LINEBOX_EXPANSION_LONGEST);
+    CHECK(linebox_refusal(linebox_expansion_read(out, LINEBOX_EXPANSION_LONGEST, store, sizeof store)) == 0);
+    CHECK(LINEBOX_EXPANSION_LONGEST <= LINEBOX_LONGEST);
+}
+
+/* the CELDL query of document 000, and its data */
+static const uint8_t query[] = {253, 2, 250, 4, 4, 128, 11, 1, 1, 67, 69, 76, 68, 76, 128, 128, 128, 128, 1, 128, 118, 254};
+static const uint8_t query_data[] = {'C', 'E', 'L', 'D', 'L', 0, 0, 0, 1};
+
+/* what a refusal leaves in the store: the bytes gathered of the first frame, on PCS with an accepted frame's data over them */
+static void left_in_the_store(void) {
+    uint8_t run[1200], left[20];
+    memcpy(left, query + 1, sizeof left);
+    memcpy(left, query_data, sizeof query_data);
+    memcpy(run + 1, query, sizeof query);
+    run[0] = 0;
+    run[sizeof query + 1] = 0;
+    fresh(); /* a byte behind the frame, one before it, the frame itself */
+    CHECK(linebox_pcs_read(run + 1, sizeof query + 1, store, sizeof store) == LINEBOX_TOO_SHORT && holds(store, left, 20, sizeof store));
+    fresh();
+    CHECK(linebox_pcs_read(run, sizeof query + 1, store, sizeof store) == LINEBOX_TOO_SHORT && holds(store, left, 20, sizeof store));
+    fresh();
+    CHECK(linebox_refusal(linebox_pcs_read(query, sizeof query, store, sizeof store)) == 0 && holds(store, left, 20, sizeof store));
+    fresh(); /* a frame that stays open, is refused at its end, or by a new start, behind which nothing is gathered */
+    CHECK(linebox_pcs_read(query, sizeof query - 1, store, sizeof store) == LINEBOX_TOO_SHORT && holds(store, query + 1, 20, sizeof store));
+    fresh();
+    run[10] ^= 1;
+    CHECK(linebox_pcs_read(run, sizeof query + 1, store, sizeof store) == LINEBOX_WRONG_CHECK && holds(store, run + 2, 20, sizeof store));
+    fresh();
+    run[12] = 253;
+    CHECK(linebox_pcs_read(run, sizeof query + 1, store, sizeof store) == LINEBOX_NEW_START && holds(store, run + 2, 10, sizeof store));
+    fresh(); /* the byte that is one too many is not stored */
+    memset(run, 7, sizeof run);
+    run[0] = 253;
+    CHECK(linebox_pcs_read(run, sizeof run, store, sizeof store) == LINEBOX_TOO_LONG && holds(store, run + 1, LINEBOX_PCS_STORE, sizeof store));
+    fresh(); /* noise alone; the first of two frames */
+    CHECK(linebox_mdu_read(run + 1, 9, store, sizeof store) == LINEBOX_TOO_SHORT && kept(store, 0, sizeof store));
+    memcpy(run, mdu_frame, 9);
+    run[9] = 0xE3;
+    CHECK(linebox_mdu_read(run, 10, store, sizeof store) == LINEBOX_TOO_SHORT && holds(store, mdu_frame, 9, sizeof store));
+    fresh();
+    static const uint8_t bare[] = {0x10, 3, 2, 0x64, 0x96}, codes[] = {0xFD, 1, 0xFF, 0, 0xFF, 3}, gathered[] = {1, 0xFF};
+    CHECK(linebox_dle_read(dle_frame, 9, store, sizeof store) == LINEBOX_TOO_SHORT && holds(store, bare, 5, sizeof store));
+    fresh();
+    CHECK(linebox_expansion_read(codes, sizeof codes, store, sizeof store) == LINEBOX_WRONG_CODE && holds(store, gathered, 2, sizeof store));
+}
+
 int main(void) {
-    for (size_t i = 0; i < sizeof data; i++) data[i] = (uint8_t)(7 * i + i / 256);
+    for (size_t i = 0; i < sizeof data; i++) data[i] = CAST(uint8_t, 7 * i + i / 256);
     pcs_reads_back();
     pcs_not_written();
     pcs_refused();
@@ -249,6 +333,8 @@ int main(void) {
     expansion_reads_back();
     expansion_not_written();
     expansion_refused();
+    longest_frames();
+    left_in_the_store();
     if (failures) {
         printf("%d failed\n", failures);
         return 1;

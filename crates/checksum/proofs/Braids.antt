@@ -7,7 +7,7 @@ use native.Mathlib.Omega.{arith}
 use lib.Bits.{bitXor, xor-zero-r}
 use lib.ListN.{length, take, drop}
 use Rattle.runs.specs.Runs.{Bytes}
-use Rattle.runs.specs.Number.{number}
+use Rattle.runs.specs.Number.{littleEndian}
 use Rattle.checksum.specs.Crc.{shifts}
 use Rattle.checksum.specs.Tables.{AfterBytes}
 use Rattle.checksum.specs.Braids.{runWords, StandsFor, Braided}
@@ -66,7 +66,7 @@ words-with p c braid ws e h =
     words-sum p 0 0 braid ws e ∙ ap (λ (x : ℕ). bitXor x (runWords p 0 ws)) (h ∙ ap (λ (n : ℕ). shifts p (32 * n) c) e) ∙ sym (words-from p c ws)
 
 -- a word more, k bytes behind a place
-word-next : (p s : ℕ) (u : List ℕ) (i k c w : ℕ) → Bytes u → i + (k + 4) ≤ length u → w ≡ number (take 4 (drop (i + k) u)) → AfterBytes p s u (i + k) c
+word-next : (p s : ℕ) (u : List ℕ) (i k c w : ℕ) → Bytes u → i + (k + 4) ≤ length u → w ≡ littleEndian (take 4 (drop (i + k) u)) → AfterBytes p s u (i + k) c
     → AfterBytes p s u (i + (k + 4)) (shifts p 32 (bitXor c w))
 word-next p s u i k c w b h e a =
     subst (λ (j : ℕ). AfterBytes p s u j (shifts p 32 (bitXor c w))) (add-assoc i k 4) (bytes-word p s u (i + k) c _ w a b (omega (arith, h)) e refl)
@@ -75,12 +75,12 @@ word-next p s u i k c w b h e a =
 pub record SixWords (u : List ℕ) (i w₀ w₁ w₂ w₃ w₄ w₅ : ℕ) : Type 0 where
   pub bytes : Bytes u
   pub within : i + 24 ≤ length u
-  pub at₀ : w₀ ≡ number (take 4 (drop i u))
-  pub at₁ : w₁ ≡ number (take 4 (drop (i + 4) u))
-  pub at₂ : w₂ ≡ number (take 4 (drop (i + 8) u))
-  pub at₃ : w₃ ≡ number (take 4 (drop (i + 12) u))
-  pub at₄ : w₄ ≡ number (take 4 (drop (i + 16) u))
-  pub at₅ : w₅ ≡ number (take 4 (drop (i + 20) u))
+  pub at₀ : w₀ ≡ littleEndian (take 4 (drop i u))
+  pub at₁ : w₁ ≡ littleEndian (take 4 (drop (i + 4) u))
+  pub at₂ : w₂ ≡ littleEndian (take 4 (drop (i + 8) u))
+  pub at₃ : w₃ ≡ littleEndian (take 4 (drop (i + 12) u))
+  pub at₄ : w₄ ≡ littleEndian (take 4 (drop (i + 16) u))
+  pub at₅ : w₅ ≡ littleEndian (take 4 (drop (i + 20) u))
 
 pub six-words : (p s : ℕ) (u : List ℕ) (i c w₀ w₁ w₂ w₃ w₄ w₅ : ℕ) → SixWords u i w₀ w₁ w₂ w₃ w₄ w₅ → AfterBytes p s u i c
     → AfterBytes p s u (i + 24) (runWords p c (w₀ ∷ w₁ ∷ w₂ ∷ w₃ ∷ w₄ ∷ w₅ ∷ []))

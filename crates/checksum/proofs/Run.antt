@@ -6,9 +6,9 @@ use native.Mathlib.Omega.{arith}
 use lib.Bits.{bitXor, xor-zero-r, xor-comm, xor-shifted}
 use lib.ListN.{length, getD, take, drop, length-drop, drop-of-length-le, take-append-drop}
 use lib.Seq.{drop-drop, length-take-le}
-use Rattle.runs.proofs.Bytes.{drop-next, bytes-take, bytes-drop}
+use Rattle.runs.proofs.Bytes.{drop-next, part-rest, bytes-take, bytes-drop}
 use Rattle.runs.specs.Runs.{Bytes}
-use Rattle.runs.specs.Number.{number}
+use Rattle.runs.specs.Number.{littleEndian}
 use Rattle.checksum.specs.Crc.{shifts, byteStep, run, crc16Of, crc32Of}
 use Rattle.checksum.specs.Tables.{AfterBytes}
 use Rattle.checksum.proofs.Xor.{xor-undo, xor-assoc}
@@ -34,6 +34,10 @@ crc32-append u v =
     ap (λ (x : ℕ). bitXor x (2 ^ 32 - 1))
     (run-joined 0xEDB88320 (2 ^ 32 - 1) u v (xor-undo (run 0xEDB88320 (2 ^ 32 - 1) u) (2 ^ 32 - 1)) refl)
 
+-- a part of a run, from a place to its end
+pub run-rest : (p c : ℕ) (u : List ℕ) (at : ℕ) {r : ℕ} → r ≡ run p c (take (length u - at) (drop at u)) → r ≡ run p c (drop at u)
+run-rest p c u at e = e ∙ ap (run p c) (part-rest u at)
+
 pub bytes-start : (p s : ℕ) (u : List ℕ) → AfterBytes p s u 0 s
 bytes-start p s u = (omega arith, refl)
 
@@ -45,21 +49,21 @@ bytes-more p s u i n c d a h e = (
 )
 
 -- the register after a run of bytes, as one number: all their bits leave at once
-pub run-number : (p c : ℕ) (u : List ℕ) → Bytes u → run p c u ≡ shifts p (8 * length u) (bitXor c (number u))
-unfolding run byteStep number shifts
+pub run-number : (p c : ℕ) (u : List ℕ) → Bytes u → run p c u ≡ shifts p (8 * length u) (bitXor c (littleEndian u))
+unfolding run byteStep littleEndian shifts
 run-number p c [] h = sym (xor-zero-r c)
 run-number p c (b ∷ u) h =
     run-number p (shifts p 8 (bitXor c b)) u (λ i. h (suc i))
-    ∙ ap (λ (x : ℕ). shifts p (8 * length u) (bitXor (shifts p 8 (bitXor c b)) x)) (sym (shifts-zeros p 8 (number u)))
-    ∙ ap (shifts p (8 * length u)) (sym (shifts-sum p 8 (bitXor c b) (number u * 2 ^ 8)))
-    ∙ sym (shifts-add p 8 (8 * length u) (bitXor (bitXor c b) (number u * 2 ^ 8)))
+    ∙ ap (λ (x : ℕ). shifts p (8 * length u) (bitXor (shifts p 8 (bitXor c b)) x)) (sym (shifts-zeros p 8 (littleEndian u)))
+    ∙ ap (shifts p (8 * length u)) (sym (shifts-sum p 8 (bitXor c b) (littleEndian u * 2 ^ 8)))
+    ∙ sym (shifts-add p 8 (8 * length u) (bitXor (bitXor c b) (littleEndian u * 2 ^ 8)))
     ∙ ap₂ (shifts p) bits joined
   where
     bits : 8 + 8 * length u ≡ 8 * suc (length u)
     bits = omega arith
 
-    joined : bitXor (bitXor c b) (number u * 2 ^ 8) ≡ bitXor c (number u * 2 ^ 8 + b)
-    joined = xor-assoc c b (number u * 2 ^ 8) ∙ ap (bitXor c) (xor-comm b (number u * 2 ^ 8) ∙ xor-shifted (number u) 8 b (h 0))
+    joined : bitXor (bitXor c b) (littleEndian u * 2 ^ 8) ≡ bitXor c (littleEndian u * 2 ^ 8 + b)
+    joined = xor-assoc c b (littleEndian u * 2 ^ 8) ∙ ap (bitXor c) (xor-comm b (littleEndian u * 2 ^ 8) ∙ xor-shifted (littleEndian u) 8 b (h 0))
 
 -- one byte more
 pub bytes-next : (p s : ℕ) (u : List ℕ) (i c d : ℕ) → AfterBytes p s u i c → i < length u → d ≡ shifts p 8 (bitXor c (getD u i 0)) → AfterBytes p s u (i + 1) d
@@ -67,7 +71,7 @@ unfolding run byteStep
 bytes-next p s u i c d a h e = bytes-more p s u i 1 c d a (omega arith) (e ∙ sym (ap (λ (l : List ℕ). run p c (take 1 l)) (drop-next u i h)))
 
 -- a word more
-pub bytes-word : (p s : ℕ) (u : List ℕ) (i c d w : ℕ) → AfterBytes p s u i c → Bytes u → i + 4 ≤ length u → w ≡ number (take 4 (drop i u))
+pub bytes-word : (p s : ℕ) (u : List ℕ) (i c d w : ℕ) → AfterBytes p s u i c → Bytes u → i + 4 ≤ length u → w ≡ littleEndian (take 4 (drop i u))
     → d ≡ shifts p 32 (bitXor c w) → AfterBytes p s u (i + 4) d
 bytes-word p s u i c d w a b h e f =
     let part = take 4 (drop i u) in

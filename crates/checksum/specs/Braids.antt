@@ -6,6 +6,11 @@ use lib.Bits.{bitXor}
 use lib.ListN.{length}
 use Rattle.checksum.specs.Crc.{shifts}
 use Rattle.checksum.specs.Tables.{AfterBytes}
+use Rattle.checksum.specs.declared.Braid.{Braid}
+
+-- the six registers of the code, the first to take a word first
+abbrev pub registersOf : Braid → List ℕ
+registersOf r = r .a ∷ r .b ∷ r .c ∷ r .d ∷ r .e ∷ r .f ∷ []
 
 -- the register after words of 32 bits
 unfoldable pub runWords : ℕ → ℕ → List ℕ → ℕ

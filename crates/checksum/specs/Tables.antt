@@ -1,5 +1,5 @@
 -- The rule of the tables by which some bits, and so a word of 32, leave a register at once; and the register along a run.
-use Prim.Native.Nat.{ℕ, _+_, _*_, _-_, _^_, _≤_, _<_}
+use Prim.Native.Nat.{ℕ, _+_, _*_, _-_, _/_, _^_, _≤_, _<_}
 use mathlib.Core.Path.{_≡_}
 use mathlib.Core.List.{List}
 use lib.ListN.{length, getD, drop}
@@ -20,3 +20,7 @@ BraidTable p t = Rows p 8 4 192 t
 -- c is the register after the first i bytes of the run u, from the start s: the bytes that are left give the register after u
 abbrev pub AfterBytes : ℕ → ℕ → List ℕ → ℕ → ℕ → Type 0
 AfterBytes p s u i c = (i ≤ length u) × (run p c (drop i u) ≡ run p s u)
+
+-- the same after as many bytes as make whole words
+abbrev pub AfterWords : ℕ → ℕ → List ℕ → ℕ → Type 0
+AfterWords p s u c = AfterBytes p s u (length u / 4 * 4) c

@@ -7,13 +7,13 @@ use braid_table::BRAID32;
 use table::NIBBLES16;
 use table::NIBBLES32;
 ghost use mathlib.Core.Path.{_≡_};
-ghost use mathlib.Core.List.{[], _∷_, _++_};
+ghost use mathlib.Core.List.{_++_};
 ghost use Prim.Native.Nat.{ℕ, _+_, _*_, _-_, _/_, _%_, _^_, _≤_, _<_};
 ghost use lib.ListN.{length, take, drop};
-ghost use Rattle.runs.specs.Number.{number};
+ghost use Rattle.runs.specs.Number.{littleEndian};
 ghost use Rattle.checksum.specs.Crc.{shifts, run, crc16Of, crc32Of};
-ghost use Rattle.checksum.specs.Tables.{NibbleTable, BraidTable, AfterBytes};
-ghost use Rattle.checksum.specs.Braids.{StandsFor, Braided};
+ghost use Rattle.checksum.specs.Tables.{NibbleTable, BraidTable, AfterBytes, AfterWords};
+ghost use Rattle.checksum.specs.Braids.{registersOf, StandsFor, Braided};
 ghost use Rattle.checksum.specs.Sum.{totalOf, lowered, sumOf};
 
 // From so many bytes on, a table for long runs is worth its laying out.
@@ -97,14 +97,14 @@ fn pair(low: u8, high: u8) -> u32
 // The number of the four bytes from a place on, low byte first.
 fn word(bytes: &[u8], at: usize) -> u32
     requires { ⌜ at + 4 ≤ length (now bytes) ⌝ }
-    ensures { λ r. ⌜ r ≡ number (take 4 (drop at (now (bytes .entry)))) ⌝ }
+    ensures { λ r. ⌜ r ≡ littleEndian (take 4 (drop at (now (bytes .entry)))) ⌝ }
 {
     pair(bytes[at + 2], bytes[at + 3]) * 0x1_0000 + pair(bytes[at], bytes[at + 1])
 }
 
 // The register after as many bytes as make whole words: the bytes behind them lead from it to what all bytes lead to.
 fn after_words(table: &[u32; 128], start: u32, bytes: &[u8]) -> u32
-    ensures { λ r. ⌜ ((p : ℕ) → NibbleTable p (now (table .entry)) → AfterBytes p start (now (bytes .entry)) (length (now (bytes .entry)) / 4 * 4) r) ⌝ }
+    ensures { λ r. ⌜ ((p : ℕ) → NibbleTable p (now (table .entry)) → AfterWords p start (now (bytes .entry)) r) ⌝ }
 {
     let whole = bytes.len() / 4 * 4;
     let mut c = start;
@@ -171,7 +171,7 @@ struct Braid {
 fn after_blocks(table: &[u32; 1024], start: u32, bytes: &[u8]) -> Braid
     requires { ⌜ 24 ≤ length (now bytes) ⌝ }
     ensures within { λ r. ⌜ r .next + 24 ≤ length (now (bytes .entry)) ⌝ }
-    ensures braided { λ r. ⌜ ((p : ℕ) → BraidTable p (now (table .entry)) → Braided p start (now (bytes .entry)) (r .next) (r .a ∷ r .b ∷ r .c ∷ r .d ∷ r .e ∷ r .f ∷ [])) ⌝ }
+    ensures braided { λ r. ⌜ ((p : ℕ) → BraidTable p (now (table .entry)) → Braided p start (now (bytes .entry)) (r .next) (registersOf r)) ⌝ }
 {
     let mut a = start;
     let mut b: u32 = 0;
@@ -203,7 +203,7 @@ fn after_blocks(table: &[u32; 1024], start: u32, bytes: &[u8]) -> Braid
 // The register after a block, from registers side by side: each word in turn, with its register.
 fn join(table: &[u32; 128], braid: Braid, block: &[u8]) -> u32
     requires { ⌜ 24 ≤ length (now block) ⌝ }
-    ensures { λ r. ⌜ ((p c : ℕ) → NibbleTable p (now (table .entry)) → StandsFor p (braid .a ∷ braid .b ∷ braid .c ∷ braid .d ∷ braid .e ∷ braid .f ∷ []) c → AfterBytes p c (now (block .entry)) 24 r) ⌝ }
+    ensures { λ r. ⌜ ((p c : ℕ) → NibbleTable p (now (table .entry)) → StandsFor p (registersOf braid) c → AfterBytes p c (now (block .entry)) 24 r) ⌝ }
 {
     let c1 = shift32(table, braid.a ^ word(block, 0));
     let c2 = shift32(table, c1 ^ (braid.b ^ word(block, 4)));
@@ -216,7 +216,8 @@ fn join(table: &[u32; 128], braid: Braid, block: &[u8]) -> u32
 // The register after the bytes of a long run.
 fn after_long(table: &[u32; 128], long: &[u32; 1024], start: u32, bytes: &[u8]) -> u32
     requires { ⌜ 24 ≤ length (now bytes) ⌝ }
-    ensures { λ r. ⌜ ((p : ℕ) → NibbleTable p (now (table .entry)) → BraidTable p (now (long .entry)) → r ≡ run p start (now (bytes .entry))) ⌝ }
+    ensures { λ r. ⌜ ((p : ℕ) → NibbleTable p (now (table .entry)) → BraidTable p (now (long .entry))
+        → r ≡ run p start (now (bytes .entry))) ⌝ }
 {
     let braid = after_blocks(long, start, bytes);
     let next = braid.next;
@@ -266,11 +267,11 @@ pub fn crc32(bytes: &[u8]) -> u32
 }
 
 // The CRC of the expansion link, of two parts, one after the other.
-pub fn crc32_joined(head: &[u8], tail: &[u8]) -> u32
-    ensures { λ r. ⌜ r ≡ crc32Of (now (head .entry) ++ now (tail .entry)) ⌝ }
+pub fn crc32_joined(first: &[u8], second: &[u8]) -> u32
+    ensures { λ r. ⌜ r ≡ crc32Of (now (first .entry) ++ now (second .entry)) ⌝ }
 {
     let table = table32();
-    after32(&table, after(&table, 0xFFFF_FFFF, head), tail) ^ 0xFFFF_FFFF
+    after32(&table, after(&table, 0xFFFF_FFFF, first), second) ^ 0xFFFF_FFFF
 }
 
 // The bytes added up, modulo 256.

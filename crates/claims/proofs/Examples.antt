@@ -2,15 +2,15 @@
 use mathlib.Core.Path.{refl}
 use mathlib.Core.List.{sum}
 use Rattle.runs.specs.Runs.{each}
-use Rattle.runs.specs.Number.{number}
+use Rattle.runs.specs.Number.{littleEndian}
 use Rattle.packing.specs.Seven.{isSent}
 use Rattle.packing.specs.Packed.{lastPlace}
-use Rattle.packing.specs.Unpacked.{joined, unpackedGroup, unpackedGroups, dataOf, allSent, unusedClear, wellEnded, wellPacked, unpacked}
+use Rattle.packing.specs.Unpacked.{joined, unpackedGroup, unpackedGroups, dataInGroups, allSent, unusedClear, wellEnded, wellPacked, unpacked}
 use Rattle.checksum.specs.Crc.{shifts, byteStep, run}
 use Rattle.record.specs.Form.{formOf, allowed, wellFormed}
 use Rattle.record.specs.Answers.{reading}
 use Rattle.claims.specs.Examples.{Examples}
 
 pub examples : Examples
-unfolding sum each number isSent lastPlace joined unpackedGroup unpackedGroups dataOf allSent unusedClear wellEnded wellPacked unpacked shifts byteStep run formOf allowed wellFormed reading
+unfolding sum each littleEndian isSent lastPlace joined unpackedGroup unpackedGroups dataInGroups allSent unusedClear wellEnded wellPacked unpacked shifts byteStep run formOf allowed wellFormed reading
 examples = (refl, (refl, (refl, (refl, (refl, (refl, (refl, (refl, (refl, (refl, (refl, (refl, tt))))))))))))

@@ -11,7 +11,7 @@ use Rattle.checksum.specs.Crc.{crc16Of}
 use Rattle.escape.specs.Code.{hide}
 use Rattle.escape.specs.Expansion.{expansion}
 use Rattle.dle.specs.Frame.{content, frame}
-use Rattle.record.specs.Fares.{unsigned, signed}
+use Rattle.record.specs.Fares.{unsignedFares, signedFares}
 use Rattle.record.specs.Answers.{reading}
 
 -- what is worked out, and what the papers print for it
@@ -58,8 +58,16 @@ rows =
       worked = hide expansion (0xFD ∷ 0xFE ∷ 0xFF ∷ []);
       printed = 0xFF ∷ 0x02 ∷ 0xFF ∷ 0x01 ∷ 0xFF ∷ 0x00 ∷ [];
     }
-    ∷ record { Value = Outcome ℕ; worked = reading unsigned (0x02 ∷ 0x00 ∷ 0x00 ∷ 0x01 ∷ 0x00 ∷ 0x64 ∷ 0x96 ∷ []) 0; printed = done 38500 }
-    ∷ record { Value = Outcome ℤ; worked = reading signed (0x03 ∷ 0x00 ∷ 0x00 ∷ 0x01 ∷ 0x00 ∷ 0x64 ∷ 0x96 ∷ []) 0; printed = done (negsuc 27035) }
+    ∷ record {
+      Value = Outcome ℕ;
+      worked = reading unsignedFares (0x02 ∷ 0x00 ∷ 0x00 ∷ 0x01 ∷ 0x00 ∷ 0x64 ∷ 0x96 ∷ []) 0;
+      printed = done 38500;
+    }
+    ∷ record {
+      Value = Outcome ℤ;
+      worked = reading signedFares (0x03 ∷ 0x00 ∷ 0x00 ∷ 0x01 ∷ 0x00 ∷ 0x64 ∷ 0x96 ∷ []) 0;
+      printed = done (negsuc 27035);
+    }
     ∷ []
 
 abbrev pub Examples : Type 0

@@ -7,15 +7,15 @@ use native.Mathlib.Omega.{arith}
 use lib.ListN.{length, take}
 use borrow.Author.Tests.{le-leb}
 use Rattle.runs.proofs.Cases.{by-eqb}
-use Rattle.framing.specs.State.{stateOf, knownState}
+use Rattle.framing.specs.State.{knownState}
 use Rattle.framing.specs.declared.State.{State}
-use Rattle.framing.proofs.States.{shared-next, shared-leaves}
+use Rattle.framing.proofs.States.{stateOf, shared-next, shared-leaves}
 use Rattle.framing.proofs.Lawful.{Lawful}
 use Rattle.dle.specs.Frame.{frame}
 use Rattle.dle.specs.Rules.{Phase, hunting, half, inside, size, gathered, held}
 use Rattle.dle.specs.Contract.{modeOf, phaseOf, link}
 use Rattle.dle.proofs.Bytes.{frame-bytes}
-use Rattle.dle.proofs.Cut.{reached, takes}
+use Rattle.dle.proofs.OnByte.{reached, takes}
 use Rattle.dle.proofs.Readback.{reads-frame}
 
 abbrev stateIn : Phase → ℕ → State

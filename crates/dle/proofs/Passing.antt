@@ -20,7 +20,7 @@ use Rattle.framing.specs.declared.State.{State}
 use Rattle.framing.proofs.States.{noise-mode, noise-next}
 use Rattle.framing.proofs.Passing.{leads-then, leads-byte, leads-before}
 use Rattle.dle.specs.Frame.{Message}
-use Rattle.dle.specs.Rules.{Phase, inside, size, gathered, held, cut}
+use Rattle.dle.specs.Rules.{Phase, inside, size, gathered, held, onByte}
 use Rattle.dle.specs.Contract.{modeOf, link}
 use Rattle.dle.specs.Steps.{opened}
 
@@ -57,13 +57,13 @@ after s store r = ((stateAfter modeOf gathered held s (r .0) (r .1), over (gathe
 pub rules : Gathering link dle opened waiting
 rules = record {
   half = λ k o z b store most room e.
-      let t : cut (inside false (take k store)) b ≡ (inside true (take k store), none) = rw e in
+      let t : onByte (inside false (take k store)) b ≡ (inside true (take k store), none) = rw e in
       ap (after (opened k o z) store) t
       ∙ (λ i. ((waiting (gathered-long size k store room most i) ((o + 1) % 2 ^ 32) z, sym (same-over store k (omega arith)) i), none));
   whole = λ k o z b v store less room e.
-      let t : cut (inside false (take k store)) b ≡ (inside false (take k store ++ (v ∷ [])), none) = rw e (rw (gathered-room size k store room less)) in
+      let t : onByte (inside false (take k store)) b ≡ (inside false (take k store ++ (v ∷ [])), none) = rw e (rw (gathered-room size k store room less)) in
       ap (after (opened k o z) store) t ∙ gathered-one size k store room (λ n. opened n ((o + 1) % 2 ^ 32) z) v less;
   second = λ k o z b v store less room e.
-      let t : cut (inside true (take k store)) b ≡ (inside false (take k store ++ (v ∷ [])), none) = rw e (rw (gathered-room size k store room less)) in
+      let t : onByte (inside true (take k store)) b ≡ (inside false (take k store ++ (v ∷ [])), none) = rw e (rw (gathered-room size k store room less)) in
       ap (after (waiting k o z) store) t ∙ gathered-one size k store room (λ n. opened n ((o + 1) % 2 ^ 32) z) v less;
 }

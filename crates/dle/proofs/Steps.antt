@@ -12,18 +12,18 @@ use Rattle.framing.specs.State.{stateAfter}
 use Rattle.framing.specs.declared.State.{State}
 use Rattle.framing.proofs.States.{count-within}
 use Rattle.dle.specs.Frame.{Message}
-use Rattle.dle.specs.Rules.{Phase, hunting, half, size, gathered, held, cut}
+use Rattle.dle.specs.Rules.{Phase, hunting, half, size, gathered, held, onByte}
 use Rattle.dle.specs.Contract.{modeOf, phaseOf}
-use Rattle.dle.proofs.Cut.{takes}
+use Rattle.dle.proofs.OnByte.{takes}
 
 -- hunting stores nothing
 abbrev Keeps : List ℕ → Phase × Option (Segment Message) → Type 0
 Keeps store r = store ≡ over (gathered (r .0)) store
 
-pub hunting-keeps : (store : List ℕ) (b : ℕ) → Keeps store (cut hunting b)
+pub hunting-keeps : (store : List ℕ) (b : ℕ) → Keeps store (onByte hunting b)
 hunting-keeps store b = by-eqb (Keeps store) b 0x10 (λ _. refl) (λ _. refl)
 
-pub half-keeps : (store : List ℕ) (b : ℕ) → Keeps store (cut half b)
+pub half-keeps : (store : List ℕ) (b : ℕ) → Keeps store (onByte half b)
 half-keeps store b = by-eqb (Keeps store) b 0x02 (λ _. refl) (λ _. refl)
 
 -- what is gathered is as much as the count says, or less
@@ -35,5 +35,5 @@ counted s store = by-eqb P (s .mode) 0 (λ _. omega arith) (λ _. by-eqb P (s .m
 
 -- the count stays within the size
 pub count-next : (s after : State) (store : List ℕ) (b : ℕ) → s .count ≤ size
-    → after ≡ stateAfter modeOf gathered held s (cut (phaseOf s store) b .0) (cut (phaseOf s store) b .1) → after .count ≤ size
-count-next = count-within modeOf gathered held phaseOf cut size counted (λ p b h. takes p b h .good)
+    → after ≡ stateAfter modeOf gathered held s (onByte (phaseOf s store) b .0) (onByte (phaseOf s store) b .1) → after .count ≤ size
+count-next = count-within modeOf gathered held phaseOf onByte size counted (λ p b h. takes p b h .good)

@@ -5,11 +5,11 @@ use mathlib.Core.List.{List}
 use lib.ListN.{length, take}
 use lib.Dec.{eqb}
 use Rattle.framing.specs.State.{freshState, knownState, stateAfter}
-use Rattle.framing.specs.Link.{Link, Lent, Told, nothing, numbers, number, dataAt}
+use Rattle.framing.specs.Link.{Link, Lent, Told, nothing, accepted, refused, dataAt}
 use Rattle.framing.specs.declared.State.{State}
 use Rattle.dle.specs.Frame.{content, error, Typed, ok, frame}
 use Rattle.dle.specs.Frame as Frame
-use Rattle.dle.specs.Rules.{Phase, hunting, half, inside, size, gathered, held, cut}
+use Rattle.dle.specs.Rules.{Phase, hunting, half, inside, size, gathered, held, onByte}
 use Rattle.dle.specs.declared.Message.{Message}
 use Rattle.dle.specs.declared.Event.{Event}
 use Rattle.dle.specs.declared.Event.the-variants.{Nothing, Accepted, Refused}
@@ -48,7 +48,7 @@ link =
       frame = frame;
       Phase = Phase;
       hunting = hunting;
-      cut = cut;
+      onByte = onByte;
       gathered = gathered;
       held = held;
       size = size;
@@ -59,7 +59,7 @@ link =
       «open» = λ s. s .«open»;
       phaseOf = phaseOf;
       stateAfter = stateAfter modeOf gathered held;
-      front = λ p b. gathered (cut p b .0);
+      front = λ p b. gathered (onByte p b .0);
       Numbers = Message;
       numbersOf = numbersOf;
       messageOf = messageOf;
@@ -68,9 +68,9 @@ link =
 -- each case of the receiver's answer
 abbrev pub toldOf : Event → Told Message
 toldOf Nothing = nothing
-toldOf (Accepted m) = numbers m
-toldOf (Refused n) = number n
+toldOf (Accepted m) = accepted m
+toldOf (Refused n) = refused n
 
 -- an answer with the store after the call
-abbrev pub answerOf : Received → List ℕ → Told Message × ℕ × Lent link
-answerOf r store = (toldOf (r .event), r .used, (r .state, store))
+abbrev pub receivedOf : Received → List ℕ → Told Message × ℕ × Lent link
+receivedOf r store = (toldOf (r .event), r .used, (r .state, store))

@@ -24,13 +24,13 @@ ok (content s n d) = leb 1 (length d) && leb (length d) 255
 ok (error s n e) = true
 
 -- sequence, node, length and data; an error message has length 0 and then its error byte
-abbrev pub payload : Message → List ℕ
-payload (content s n d) = s ∷ n ∷ length d ∷ d
-payload (error s n e) = s ∷ n ∷ 0 ∷ e ∷ []
+abbrev pub body : Message → List ℕ
+body (content s n d) = s ∷ n ∷ length d ∷ d
+body (error s n e) = s ∷ n ∷ 0 ∷ e ∷ []
 
--- 10 02, the payload with every 10 doubled, 10 03
+-- 10 02, the body with every 10 doubled, 10 03
 abbrev pub enclose : List ℕ → List ℕ
 enclose g = 0x10 ∷ 0x02 ∷ hide dle g ++ (0x10 ∷ 0x03 ∷ [])
 
 abbrev pub frame : Message → List ℕ
-frame m = enclose (payload m)
+frame m = enclose (body m)

@@ -16,7 +16,7 @@ use Rattle.dle.specs.declared.Stepped.{Stepped}
 use Rattle.framing.specs.declared.Reached.{Reached}
 
 -- what is answered of a byte by what the rules give: the phase after it, and the segment that it closes
-pub record Answers (s : State) (c : Phase × Option (Segment Frame.Message)) (r : Stepped) : Type 0 where
+pub record ByRules (s : State) (c : Phase × Option (Segment Frame.Message)) (r : Stepped) : Type 0 where
   pub tells : toldOf (r .event) ≡ told link (eventOf (c .1))
   pub state : r .state ≡ stateAfter modeOf gathered held s (c .0) (c .1)
 

@@ -16,12 +16,12 @@ ghost use Rattle.framing.specs.Answer.{outcomeOf, storedAt};
 ghost use Rattle.framing.specs.Writer.{writes};
 ghost use Rattle.framing.specs.Receiver.{feed};
 ghost use Rattle.framing.specs.Segment.{eventOf};
-ghost use Rattle.framing.specs.Link.{isEvent, told, stepOn, answered, answer};
+ghost use Rattle.framing.specs.Link.{isEvent, told, stepOn, reported, receives};
 ghost use Rattle.escape.specs.Code.{meaningOf};
 ghost use Rattle.dle.specs.Frame.{content, error, ok, enclose, frame};
-ghost use Rattle.dle.specs.Rules.{hunting, half, size, gathered, judge, gather, act, cut};
-ghost use Rattle.dle.specs.Contract.{phaseOf, dataOf, link, toldOf, answerOf};
-ghost use Rattle.dle.specs.Steps.{Answers, Open, Passes};
+ghost use Rattle.dle.specs.Rules.{hunting, half, size, gathered, bytesBehind, faultOf, messageIn, judge, gather, act, onByte};
+ghost use Rattle.dle.specs.Contract.{phaseOf, numbersOf, dataOf, link, toldOf, receivedOf};
+ghost use Rattle.dle.specs.Steps.{ByRules, Open, Passes};
 
 // The least store of a receiver: a header of 3 bytes and data of at most 255.
 const SIZE: usize = 258;
@@ -71,10 +71,10 @@ fn put_frame(header: &[u8], data: &[u8], out: &mut [u8]) -> usize
     ensures put { λ r. ⌜ now (out .exit) ≡ sets (now (out .entry)) 0 (enclose (now (header .entry) ++ now («data» .entry))) ⌝ }
 {
     put_mark(out, 0, 0x10, 0x02);
-    let head = escape::dle_hide_into(header, out, 2);
-    let place = 2 + framing::count_of(head);
-    let rest = escape::dle_hide_into(data, out, place);
-    let end = place + framing::count_of(rest);
+    let hidden_header = escape::dle_hide_into(header, out, 2);
+    let place = 2 + framing::count_of(hidden_header);
+    let hidden_data = escape::dle_hide_into(data, out, place);
+    let end = place + framing::count_of(hidden_data);
     put_mark(out, end, 0x10, 0x03);
     end + 2
 }
@@ -95,7 +95,8 @@ fn has_room(header: &[u8], data: &[u8], memory: usize) -> bool
 // Writes a frame that may be sent, if the memory holds it: nothing is stored before that is known.
 fn send(header: &[u8], data: &[u8], out: &mut [u8]) -> Answer
     requires { ⌜ length (now header) + length (now «data») ≤ size ⌝ }
-    ensures { λ r. ⌜ (outcomeOf r, now (out .exit)) ≡ storedAt (enclose (now (header .entry) ++ now («data» .entry))) (now (out .entry)) 0 ⌝ }
+    ensures { λ r. ⌜ (outcomeOf r, now (out .exit))
+        ≡ storedAt (enclose (now (header .entry) ++ now («data» .entry))) (now (out .entry)) 0 ⌝ }
 {
     if has_room(header, data, out.len()) {
         let n = put_frame(header, data, out);
@@ -133,7 +134,7 @@ pub fn write_error(sequence: u8, node: u8, code: u8, out: &mut [u8]) -> Answer
 // Hunting: a 10 waits, any other byte is noise.
 fn hunt(state: State, byte: u8) -> Stepped
     requires { ⌜ state .mode ≡ 0 ⌝ }
-    ensures { λ r. ⌜ Answers state (cut hunting byte) r ⌝ }
+    ensures { λ r. ⌜ ByRules state (onByte hunting byte) r ⌝ }
 {
     if byte == 0x10 {
         Stepped {
@@ -151,7 +152,7 @@ fn hunt(state: State, byte: u8) -> Stepped
 // Hunting, after a 10: a 02 opens a frame, any other byte is noise with the 10.
 fn begin(state: State, byte: u8) -> Stepped
     requires { ⌜ state .mode ≡ 1 ⌝ }
-    ensures { λ r. ⌜ Answers state (cut half byte) r ⌝ }
+    ensures { λ r. ⌜ ByRules state (onByte half byte) r ⌝ }
 {
     if byte == 0x02 {
         Stepped {
@@ -169,8 +170,9 @@ fn begin(state: State, byte: u8) -> Stepped
 // One more byte of the frame is gathered, unless it is one too many.
 fn gather_byte(state: State, store: &mut [u8], byte: u8) -> Stepped
     requires { ⌜ Open state (now store) ⌝ }
-    ensures stepped { λ r. ⌜ ((wire : List ℕ) → Answers state (gather (take (state .count) (now (store .entry))) byte wire) r) ⌝ }
-    ensures stored { λ r. ⌜ ((wire : List ℕ) → now (store .exit) ≡ over (gathered (gather (take (state .count) (now (store .entry))) byte wire .0)) (now (store .entry))) ⌝ }
+    ensures stepped { λ r. ⌜ ((wire : List ℕ) → ByRules state (gather (take (state .count) (now (store .entry))) byte wire) r) ⌝ }
+    ensures stored { λ r. ⌜ ((wire : List ℕ) → now (store .exit)
+        ≡ over (gathered (gather (take (state .count) (now (store .entry))) byte wire .0)) (now (store .entry))) ⌝ }
 {
     let at = state.count;
     if at < SIZE {
@@ -188,51 +190,73 @@ fn gather_byte(state: State, store: &mut [u8], byte: u8) -> Stepped
 }
 
 // A length byte as a number of bytes.
-fn wide(length: u8) -> usize
-    ensures { λ r. ⌜ r ≡ length ⌝ }
+fn wide(stated: u8) -> usize
+    ensures { λ r. ⌜ r ≡ stated ⌝ }
 {
-    length as usize
+    stated as usize
 }
 
-// The end of a frame with so many gathered bytes.
-fn judge_frame(store: &[u8], count: usize) -> Event
-    requires { ⌜ (count ≤ size) × (size ≤ length (now store)) ⌝ }
-    ensures { λ r. ⌜ ((wire : List ℕ) → toldOf r ≡ told link (eventOf (some (judge (take count (now (store .entry))) wire)))) ⌝ }
+// How many bytes stand behind a stated length: 0 marks an error message with its one byte.
+fn bytes_behind(stated: u8) -> usize
+    ensures { λ r. ⌜ r ≡ bytesBehind stated ⌝ }
 {
+    if stated == 0 { 1 } else { wide(stated) }
+}
+
+// The number of the first test that a frame's gathered bytes fail, 0 where they pass all.
+fn fault_of(gathered: &[u8]) -> u8
+    ensures { λ r. ⌜ r ≡ faultOf (now (gathered .entry)) ⌝ }
+{
+    let count = gathered.len();
     if count < 4 {
-        return Event::Refused(refusal::TOO_SHORT);
+        return refusal::TOO_SHORT;
     }
-    let stated = store[2];
+    if bytes_behind(gathered[2]) != count - 3 {
+        return refusal::WRONG_LENGTH;
+    }
+    0
+}
+
+// The message of a frame's gathered bytes.
+fn message_of(gathered: &[u8]) -> Message
+    requires { ⌜ (4 ≤ length (now gathered)) × (faultOf (now gathered) ≡ 0) ⌝ }
+    ensures { λ r. ⌜ r ≡ numbersOf (messageIn (now (gathered .entry))) ⌝ }
+{
+    let stated = gathered[2];
     if stated == 0 {
-        if count == 4 {
-            Event::Accepted(Message {
-                sequence: store[0],
-                node: store[1],
-                length: 0,
-                error: store[3],
-            })
-        } else {
-            Event::Refused(refusal::WRONG_LENGTH)
-        }
-    } else {
-        if wide(stated) == count - 3 {
-            Event::Accepted(Message {
-                sequence: store[0],
-                node: store[1],
-                length: stated,
-                error: 0,
-            })
-        } else {
-            Event::Refused(refusal::WRONG_LENGTH)
-        }
+        return Message {
+            sequence: gathered[0],
+            length: 0,
+            node: gathered[1],
+            error: gathered[3],
+        };
     }
+    Message {
+        sequence: gathered[0],
+        length: stated,
+        node: gathered[1],
+        error: 0,
+    }
+}
+
+// The end of a frame.
+fn judge_frame(gathered: &[u8]) -> Event
+    ensures { λ r. ⌜ ((wire : List ℕ) → toldOf r ≡ told link (eventOf (some (judge (now (gathered .entry)) wire)))) ⌝ }
+{
+    let fault = fault_of(gathered);
+    if fault != 0 {
+        return Event::Refused(fault);
+    }
+    Event::Accepted(message_of(gathered))
 }
 
 // A wire byte of an open frame, by its meaning.
 fn act_on(state: State, store: &mut [u8], meaning: Meaning) -> Stepped
     requires { ⌜ Open state (now store) ⌝ }
-    ensures stepped { λ r. ⌜ ((wire : List ℕ) → Answers state (act (take (state .count) (now (store .entry))) wire (meaningOf meaning)) r) ⌝ }
-    ensures stored { λ r. ⌜ ((wire : List ℕ) → now (store .exit) ≡ over (gathered (act (take (state .count) (now (store .entry))) wire (meaningOf meaning) .0)) (now (store .entry))) ⌝ }
+    ensures stepped { λ r. ⌜ ((wire : List ℕ)
+        → ByRules state (act (take (state .count) (now (store .entry))) wire (meaningOf meaning)) r) ⌝ }
+    ensures stored { λ r. ⌜ ((wire : List ℕ) → now (store .exit)
+        ≡ over (gathered (act (take (state .count) (now (store .entry))) wire (meaningOf meaning) .0)) (now (store .entry))) ⌝ }
 {
     match meaning {
         Meaning::Byte(byte) => gather_byte(state, store, byte),
@@ -245,7 +269,7 @@ fn act_on(state: State, store: &mut [u8], meaning: Meaning) -> Stepped
             state: framing::reopen(state, 2, 0, 2),
         },
         Meaning::End => {
-            let event = judge_frame(store, state.count);
+            let event = judge_frame(&store[..state.count]);
             Stepped {
                 event: event,
                 state: framing::close(state),
@@ -261,8 +285,8 @@ fn act_on(state: State, store: &mut [u8], meaning: Meaning) -> Stepped
 // One byte, in any mode.
 fn step(state: State, store: &mut [u8], byte: u8) -> Stepped
     requires { ⌜ (state .count ≤ size) × (size ≤ length (now store)) ⌝ }
-    ensures stepped { λ r. ⌜ Answers state (cut (phaseOf state (now (store .entry))) byte) r ⌝ }
-    ensures stored { λ r. ⌜ now (store .exit) ≡ over (gathered (cut (phaseOf state (now (store .entry))) byte .0)) (now (store .entry)) ⌝ }
+    ensures stepped { λ r. ⌜ ByRules state (onByte (phaseOf state (now (store .entry))) byte) r ⌝ }
+    ensures stored { λ r. ⌜ now (store .exit) ≡ over (gathered (onByte (phaseOf state (now (store .entry))) byte .0)) (now (store .entry)) ⌝ }
 {
     let mode = state.mode;
     if mode == 0 {
@@ -360,7 +384,7 @@ fn advance(state: State, store: &mut [u8], piece: &[u8], from: usize) -> Reached
 // The bytes of a piece, until one makes an event.
 fn scan(state: State, store: &mut [u8], piece: &[u8]) -> Received
     requires { ⌜ (state .count ≤ size) × (size ≤ length (now store)) ⌝ }
-    ensures { λ r. ⌜ answerOf r (now (store .exit)) ≡ answered link (feed (stepOn link) (state, now (store .entry)) (now (piece .entry))) ⌝ }
+    ensures { λ r. ⌜ receivedOf r (now (store .exit)) ≡ reported link (feed (stepOn link) (state, now (store .entry)) (now (piece .entry))) ⌝ }
 {
     let mut current = state;
     let mut i = 0;
@@ -392,7 +416,7 @@ fn scan(state: State, store: &mut [u8], piece: &[u8]) -> Received
 
 // A call of the receiver: uses the bytes of the piece until one makes an event, that one included.
 pub fn receive(state: State, store: &mut [u8], piece: &[u8]) -> Received
-    ensures { λ r. ⌜ answerOf r (now (store .exit)) ≡ answer link (state, now (store .entry)) (now (piece .entry)) ⌝ }
+    ensures { λ r. ⌜ receivedOf r (now (store .exit)) ≡ receives link (state, now (store .entry)) (now (piece .entry)) ⌝ }
 {
     if framing::is_known(state, 4, 2, SIZE) {
         if SIZE <= store.len() {
@@ -417,10 +441,5 @@ pub fn receive(state: State, store: &mut [u8], piece: &[u8]) -> Received
 pub fn data(store: &[u8], message: Message) -> &[u8]
     ensures { λ r. ⌜ now r ≡ dataOf (now (store .entry)) message ⌝ }
 {
-    let end = 3 + wide(message.length);
-    if end <= store.len() {
-        &store[3..end]
-    } else {
-        &store[..0]
-    }
+    framing::data_at(store, 3, wide(message.length))
 }

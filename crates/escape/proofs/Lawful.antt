@@ -1,81 +1,87 @@
--- Lawful codes: what is hidden reads back, and what reads back is what hiding makes.
-use Prim.Native.Nat.{ℕ, _*_, _≤_}
+-- Lawful codes: what is hidden reads back, and what is read is what hiding makes.
+use Prim.Native.Nat.{ℕ, zero, suc, _+_, _*_, _≤_, _<_}
 use mathlib.Core.Path.{_≡_, refl, ap, sym, _∙_}
 use mathlib.Core.Bool.{Bool, true, false, cond}
 use mathlib.Core.List.{List, [], _∷_, _++_, append-assoc, append-nil}
-use mathlib.Core.Option.{some, Option·map, Option·some-injective, Option·none-ne-some, map-eq-some-iff}
+use native.Mathlib.Nat.{zero-add}
 use native.Mathlib.Omega.{arith}
-use lib.ListN.{length}
-use Rattle.escape.specs.Code.{Meaning, byte, waits, start, end, wrong, Code, meaning, hide, read, unhideFrom, unhide}
-use Rattle.runs.specs.Runs.{each}
+use lib.Dec.{lit<}
+use lib.ListN.{length, take, length-append}
+use lib.Seq.{take-append-add}
+use Rattle.escape.specs.Code.{Meaning, byte, waits, start, end, wrong, Code, meaning, hide, readFirst, readSecond, unhideUpTo}
+use Rattle.runs.specs.Runs.{Bytes, each}
 use Rattle.escape.specs.Claims.{Coded, alone, pair, Lawful}
+use Rattle.runs.proofs.Bytes.{bytes-left, bytes-right}
 use Rattle.runs.proofs.Each.{each-snoc, each-short}
 
+-- what is read of wire bytes, with a byte of so many wire bytes before it
+abbrev pub led : ℕ → ℕ → List ℕ × ℕ → List ℕ × ℕ
+led b n u = (b ∷ u .0, n + u .1)
+
 module _ (code : Code) (lawful : Lawful code) where
+  unhide-none : (n : ℕ) → unhideUpTo code n [] ≡ ([], 0)
+  unfolding unhideUpTo
+  unhide-none zero = refl
+  unhide-none (suc n) = refl
+
   -- a run that hides a byte reads as that byte, whatever follows
-  read-coded : (b : ℕ) (run rest : List ℕ) → Coded code b run → unhide code (run ++ rest) ≡ Option·map (_∷_ b) (unhide code rest)
-  unfolding unhideFrom
-  read-coded b _ rest (alone p) = rw p
-  read-coded b _ rest (pair e x p a) = rw (p, a)
+  read-coded : (b n : ℕ) (run rest : List ℕ) → Coded code b run → unhideUpTo code (suc n) (run ++ rest) ≡ led b (length run) (unhideUpTo code n rest)
+  unfolding unhideUpTo
+  read-coded b n _ [] (alone p) = rw (p, unhide-none n)
+  read-coded b n _ (x ∷ rest) (alone p) = rw p
+  read-coded b n _ rest (pair e x p a) = rw (p, a)
 
-  read-byte : (b : ℕ) (rest : List ℕ) → unhide code (code .hideByte b ++ rest) ≡ Option·map (_∷_ b) (unhide code rest)
-  read-byte b rest = read-coded b (code .hideByte b) rest (lawful .coded b)
-
-  pub unhide-hide : (bytes : List ℕ) → unhide code (hide code bytes) ≡ some bytes
-  unfolding each unhideFrom
-  unhide-hide [] = refl
-  unhide-hide (b ∷ bytes) = read-byte b (hide code bytes) ∙ ap (Option·map (_∷_ b)) (unhide-hide bytes)
-
-  -- what follows hidden bytes stands for bytes too, where the whole does
-  pub unhide-rest : (front rest bytes : List ℕ) → unhide code (hide code front ++ rest) ≡ some bytes
-      → (behind : List ℕ) × (unhide code rest ≡ some behind)
+  -- hidden bytes read back, and then what follows them is read
+  pub unhide-hide : (bytes rest : List ℕ) (n : ℕ)
+      → let u = unhideUpTo code n rest in
+      unhideUpTo code (length bytes + n) (hide code bytes ++ rest) ≡ (bytes ++ u .0, length (hide code bytes) + u .1)
   unfolding each
-  unhide-rest [] rest bytes h = (bytes, h)
-  unhide-rest (b ∷ front) rest bytes h =
-      let e = ap (unhide code) (append-assoc (code .hideByte b) (hide code front) rest) ∙ read-byte b (hide code front ++ rest) in
-      let r = map-eq-some-iff (_∷_ b) (unhide code (hide code front ++ rest)) .0 (sym e ∙ h) in
-      unhide-rest front rest (r .0) (r .1)
+  unhide-hide [] rest n =
+      let u = unhideUpTo code n rest in
+      ap (λ (k : ℕ). unhideUpTo code k rest) (zero-add n) ∙ (λ i. (u .0, sym (zero-add (u .1)) i))
+  unhide-hide (b ∷ bytes) rest n =
+      let run = code .hideByte b in
+      let u = unhideUpTo code n rest in
+      let next : suc (length bytes) + n ≡ suc (length bytes + n) = omega arith in
+      let count : length run + (length (hide code bytes) + u .1) ≡ length (run ++ hide code bytes) + u .1 = omega (arith, length-append run (hide code bytes)) in
+      rw (next, append-assoc run (hide code bytes) rest)
+      (read-coded b (length bytes + n) run (hide code bytes ++ rest) (lawful .coded b) ∙ ap (led b (length run)) (unhide-hide bytes rest n)
+      ∙ (λ i. (b ∷ (bytes ++ u .0), count i)))
 
-  -- what wire bytes stand for hides to them, read with nothing waiting, and read with half an escape e before them
-  record Back (wire : List ℕ) : Type 0 where
-    whole : (bytes : List ℕ) → unhide code wire ≡ some bytes → wire ≡ hide code bytes
-    half : (e : ℕ) (bytes : List ℕ) → code .plain e ≡ waits → unhideFrom code true wire ≡ some bytes → e ∷ wire ≡ hide code bytes
+  -- what is read of wire bytes, hidden, is the part of them that it was read of
+  abbrev Back : List ℕ → List ℕ × ℕ → Type 0
+  Back wire u = take (u .1) wire ≡ hide code (u .0)
 
-  module _ (wire : List ℕ) (back : Back wire) (bytes : List ℕ) where
-    joined : (b : ℕ) (run : List ℕ) → code .hideByte b ≡ run → Option·map (_∷_ b) (unhide code wire) ≡ some bytes → run ++ wire ≡ hide code bytes
-    unfolding each
-    joined b run e h =
-        let r = map-eq-some-iff (_∷_ b) (unhide code wire) .0 h in
-        rw (← e, ← r .2) (ap (λ (x : List ℕ). code .hideByte b ++ x) (back .whole (r .0) (r .1)))
+  back-more : (b : ℕ) (run wire : List ℕ) (u : List ℕ × ℕ) → code .hideByte b ≡ run → Back wire u → Back (run ++ wire) (led b (length run) u)
+  unfolding each
+  back-more b run wire u e h = take-append-add run wire (u .1) ∙ rw e (ap (λ (x : List ℕ). run ++ x) h)
 
-    back-plain : (w : ℕ) (m : Meaning) → code .plain w ≡ m → read m (λ half. unhideFrom code half wire) ≡ some bytes → w ∷ wire ≡ hide code bytes
-    back-plain w (byte b) p h = joined b (w ∷ []) (lawful .plain-byte w b p) h
-    back-plain w waits p h = back .half w bytes p h
-    back-plain w start p h = absurd (Option·none-ne-some bytes h)
-    back-plain w end p h = absurd (Option·none-ne-some bytes h)
-    back-plain w wrong p h = absurd (Option·none-ne-some bytes h)
+  back-second : (w x : ℕ) (wire : List ℕ) (u : List ℕ × ℕ) → code .plain w ≡ waits → (m : Meaning) → code .after x ≡ m → Back wire u
+      → Back (w ∷ x ∷ wire) (readSecond m u)
+  unfolding each
+  back-second w x wire u p (byte b) a h = back-more b (w ∷ x ∷ []) wire u (lawful .after-byte w x b p a) h
+  back-second w x wire u p waits a h = refl
+  back-second w x wire u p start a h = refl
+  back-second w x wire u p end a h = refl
+  back-second w x wire u p wrong a h = refl
 
-    back-after : (e w : ℕ) → code .plain e ≡ waits → (m : Meaning) → code .after w ≡ m
-        → read m (λ half. unhideFrom code half wire) ≡ some bytes → e ∷ w ∷ wire ≡ hide code bytes
-    back-after e w p (byte b) a h = joined b (e ∷ w ∷ []) (lawful .after-byte e w b p a) h
-    back-after e w p waits a h = absurd (lawful .after-settles w a)
-    back-after e w p start a h = absurd (Option·none-ne-some bytes h)
-    back-after e w p end a h = absurd (Option·none-ne-some bytes h)
-    back-after e w p wrong a h = absurd (Option·none-ne-some bytes h)
+  back-first : (w : ℕ) (wire : List ℕ) (behind both : List ℕ × ℕ) (m : Meaning) → code .plain w ≡ m → Back wire behind → (m ≡ waits → Back (w ∷ wire) both)
+      → Back (w ∷ wire) (readFirst m behind both)
+  unfolding each
+  back-first w wire behind both (byte b) p h k = back-more b (w ∷ []) wire behind (lawful .plain-byte w b p) h
+  back-first w wire behind both waits p h k = k refl
+  back-first w wire behind both start p h k = refl
+  back-first w wire behind both end p h k = refl
+  back-first w wire behind both wrong p h k = refl
 
-  reads-back : (wire : List ℕ) → Back wire
-  unfolding each unhideFrom
-  reads-back [] = record {
-    whole = λ bytes h. ap (hide code) (Option·some-injective [] bytes h);
-    half = λ e bytes p h. absurd (Option·none-ne-some bytes h);
-  }
-  reads-back (w ∷ wire) = record {
-    whole = λ bytes h. back-plain wire (reads-back wire) bytes w (code .plain w) refl h;
-    half = λ e bytes p h. back-after wire (reads-back wire) bytes e w p (code .after w) refl h;
-  }
-
-  pub hide-unhide : (wire bytes : List ℕ) → unhide code wire ≡ some bytes → wire ≡ hide code bytes
-  hide-unhide wire = reads-back wire .whole
+  pub hide-unhide : (n : ℕ) (wire : List ℕ) → let u = unhideUpTo code n wire in take (u .1) wire ≡ hide code (u .0)
+  unfolding each unhideUpTo
+  hide-unhide zero wire = refl
+  hide-unhide (suc n) [] = refl
+  hide-unhide (suc n) (w ∷ []) = back-first w [] ([], 0) ([], 0) (code .plain w) refl refl (λ _. refl)
+  hide-unhide (suc n) (w ∷ x ∷ wire) =
+      back-first w (x ∷ wire) (unhideUpTo code n (x ∷ wire)) _ (code .plain w) refl (hide-unhide n (x ∷ wire))
+      (λ e. back-second w x wire (unhideUpTo code n wire) e (code .after x) refl (hide-unhide n wire))
 
   coded-size : (b : ℕ) (run : List ℕ) → Coded code b run → (1 ≤ length run) × (length run ≤ 2)
   coded-size b _ (alone p) = (omega arith, omega arith)
@@ -93,3 +99,10 @@ module _ (code : Code) (lawful : Lawful code) where
   hide-more e p false bytes w v h =
       ap (λ (x : List ℕ). x ++ (w ∷ [])) (append-nil (hide code bytes)) ∙ ap (λ (x : List ℕ). hide code bytes ++ x) (sym (lawful .plain-byte w v h))
       ∙ sym (each-snoc (code .hideByte) bytes v)
+
+  -- what is hidden as bytes are bytes, where a byte's run has the byte or stands for one
+  pub unhidden-bytes : ((b : ℕ) → Bytes (code .hideByte b) → b < 256) → (bytes : List ℕ) → Bytes (hide code bytes) → Bytes bytes
+  unfolding each
+  unhidden-bytes small [] h i = lit< tt
+  unhidden-bytes small (b ∷ bytes) h zero = small b (bytes-left (code .hideByte b) (hide code bytes) h)
+  unhidden-bytes small (b ∷ bytes) h (suc i) = unhidden-bytes small bytes (bytes-right (code .hideByte b) (hide code bytes) h) i

@@ -1,8 +1,7 @@
 -- Codes that hide bytes between the marks of a frame, so that no mark stands among them.
 use Prim.Native.Nat.{ℕ, zero, suc, _+_, _-_, min}
-use mathlib.Core.Bool.{Bool, true, false, cond}
+use mathlib.Core.Bool.{Bool, cond}
 use mathlib.Core.List.{List, [], _∷_}
-use mathlib.Core.Option.{Option, none, some, Option·map}
 use lib.ListN.{length}
 use Rattle.runs.specs.Runs.{each}
 use Rattle.escape.specs.declared.Meaning.{Meaning as Told}
@@ -37,23 +36,6 @@ meaning code waiting w = cond waiting (code .after w) (code .plain w)
 -- bytes as a code hides them: each byte is replaced by its run
 abbrev pub hide : Code → List ℕ → List ℕ
 hide code bytes = each (code .hideByte) bytes
-
--- a wire byte by its meaning, and then the rest, which is read with half an escape waiting (true) or not
-abbrev pub read : Meaning → (Bool → Option (List ℕ)) → Option (List ℕ)
-read (byte b) rest = Option·map (_∷_ b) (rest false)
-read waits rest = rest true
-read start rest = none
-read end rest = none
-read wrong rest = none
-
--- the bytes that a run of wire bytes stands for, read from its first on, with half an escape waiting or not
-unfoldable pub unhideFrom : Code → Bool → List ℕ → Option (List ℕ)
-unhideFrom code waiting [] = cond waiting none (some [])
-unhideFrom code waiting (w ∷ wire) = read (meaning code waiting w) (λ half. unhideFrom code half wire)
-
--- the bytes that a run of wire bytes between the marks stands for: none if it holds a mark or a wrong code, or ends in half an escape
-abbrev pub unhide : Code → List ℕ → Option (List ℕ)
-unhide code wire = unhideFrom code false wire
 
 -- what is read where the first wire byte means this: with a byte, it stands before what is read behind it; with half an escape, what both halves give
 abbrev pub readFirst : Meaning → List ℕ × ℕ → List ℕ × ℕ → List ℕ × ℕ

@@ -11,9 +11,9 @@ use Rattle.framing.proofs.States.{count-within}
 use Rattle.escape.specs.Code.{Meaning, byte, waits, start, end, wrong, meaning}
 use Rattle.escape.specs.Expansion.{expansion}
 use Rattle.expansion.specs.Frame.{Message}
-use Rattle.expansion.specs.Rules.{Phase, hunting, inside, size, gathered, held, act, cut}
+use Rattle.expansion.specs.Rules.{Phase, hunting, inside, size, gathered, held, act, onByte}
 use Rattle.expansion.specs.Contract.{modeOf, phaseOf}
-use Rattle.expansion.specs.Steps.{Answers}
+use Rattle.expansion.specs.Steps.{ByRules}
 use Rattle.expansion.specs.declared.Stepped.{Stepped}
 
 abbrev Sized : Phase × Option (Segment Message) → Type 0
@@ -26,14 +26,14 @@ act-sized g before wire start h = omega arith
 act-sized g before wire end h = omega arith
 act-sized g before wire wrong h = omega arith
 
-cut-sized : (p : Phase) (b : ℕ) → length (gathered p) ≤ size → Sized (cut p b)
-cut-sized hunting b h = by-eqb Sized b 0xFD (λ _. omega arith) (λ _. omega arith)
-cut-sized (inside w g) b h = act-sized g (held (inside w g)) (held (inside w g) ++ (b ∷ [])) (meaning expansion w b) h
+byte-sized : (p : Phase) (b : ℕ) → length (gathered p) ≤ size → Sized (onByte p b)
+byte-sized hunting b h = by-eqb Sized b 0xFD (λ _. omega arith) (λ _. omega arith)
+byte-sized (inside w g) b h = act-sized g (held (inside w g)) (held (inside w g) ++ (b ∷ [])) (meaning expansion w b) h
 
 counted : (s : State) (store : List ℕ) → length (gathered (phaseOf s store)) ≤ s .count
 counted s store =
     by-eqb (λ (p : Phase). length (gathered p) ≤ s .count) (s .mode) 0 (λ _. omega arith) (λ _. simp length-take (omega arith))
 
-pub count-next : (s : State) (store : List ℕ) (b : ℕ) (r : Stepped) (after : List ℕ) → Answers s store (cut (phaseOf s store) b) r after → s .count ≤ size
+pub count-next : (s : State) (store : List ℕ) (b : ℕ) (r : Stepped) (after : List ℕ) → ByRules s store (onByte (phaseOf s store) b) r after → s .count ≤ size
     → r .state .count ≤ size
-count-next s store b r after a h = count-within modeOf gathered held phaseOf cut size counted cut-sized s (r .state) store b h (a .state)
+count-next s store b r after a h = count-within modeOf gathered held phaseOf onByte size counted byte-sized s (r .state) store b h (a .state)

@@ -7,17 +7,18 @@ use native.Mathlib.Omega.{arith}
 use lib.Dec.{leb}
 use lib.ListN.{length, getD, take, drop, length-append, length-drop, take-append-drop}
 use lib.Seq.{take-at, drop-at, take-add, length-take-le}
-use borrow.Author.Tests.{le-leb, le-ltb, eq-eqb, eqb-true, leb-true}
+use borrow.Author.Tests.{le-leb, eq-eqb, eqb-true, leb-true}
 use Rattle.runs.specs.Runs.{Bytes}
-use Rattle.runs.specs.Number.{number, bytesOf}
+use Rattle.runs.specs.Number.{littleEndian, bytesOf}
 use Rattle.runs.proofs.Bytes.{bytes-append, bytes-drop}
 use Rattle.runs.proofs.Cases.{and-both}
 use Rattle.runs.proofs.Number.{number-bytesOf, bytesOf-number, length-bytesOf, bytes-bytesOf}
-use Rattle.framing.specs.Segment.{accepted}
+use Rattle.framing.specs.Segment.{acceptedFrame}
 use Rattle.checksum.specs.Crc.{crc32Of}
 use Rattle.checksum.proofs.CheckValue.{crc32-lt}
 use Rattle.expansion.specs.Frame.{Message, Typed, kindOk, ok, body, trailer}
-use Rattle.expansion.specs.Rules.{size, checkRight, fieldsOk, messageIn, judge}
+use Rattle.expansion.specs.Rules.{size, checkRight, fieldsOk, faultOf, messageIn, judge}
+use Rattle.expansion.proofs.Passed.{Passed, no-fault}
 
 -- what a frame holds between its marks, before hiding
 abbrev pub content : Message → List ℕ
@@ -60,9 +61,9 @@ module _ (g : List ℕ) (l : 8 ≤ length g) where
   content-in y e =
       let t = drop (length g - 4) g in
       let n : length t ≡ 4 = simp length-drop (omega arith) in
-      let c : number t ≡ crc32Of (body (messageIn g)) = eqb-true (number t) (crc32Of (take (length g - 4) g)) e ∙ ap crc32Of (sym body-in) in
+      let c : littleEndian t ≡ crc32Of (body (messageIn g)) = eqb-true (littleEndian t) (crc32Of (take (length g - 4) g)) e ∙ ap crc32Of (sym body-in) in
       let s : trailer (body (messageIn g)) ≡ t =
-      ap (bytesOf 4) (sym c) ∙ ap (λ (k : ℕ). bytesOf k (number t)) (sym n) ∙ bytesOf-number t (bytes-drop (length g - 4) g y) in
+      ap (bytesOf 4) (sym c) ∙ ap (λ (k : ℕ). bytesOf k (littleEndian t)) (sym n) ∙ bytesOf-number t (bytes-drop (length g - 4) g y) in
       ap (λ (x : List ℕ). body (messageIn g) ++ x) s ∙ ap (λ (x : List ℕ). x ++ t) body-in ∙ take-append-drop (length g - 4) g
 
   -- with right fields it may be sent
@@ -91,8 +92,8 @@ module _ (m : Message) (t : Typed m) where
 
   check-content : checkRight (content m) ≡ true
   check-content =
-      eq-eqb (number (drop (length (content m) - 4) (content m))) (crc32Of (take (length (content m) - 4) (content m)))
-      (ap number drop-body ∙ number-bytesOf 4 (crc32Of (body m)) (crc32-lt (body m) body-bytes) ∙ ap crc32Of (sym take-body))
+      eq-eqb (littleEndian (drop (length (content m) - 4) (content m))) (crc32Of (take (length (content m) - 4) (content m)))
+      (ap littleEndian drop-body ∙ number-bytesOf 4 (crc32Of (body m)) (crc32-lt (body m) body-bytes) ∙ ap crc32Of (sym take-body))
 
   data-length : length (content m) - 8 ≡ length (m .payload)
   data-length = omega (arith, content-length m)
@@ -106,6 +107,7 @@ module _ (m : Message) (t : Typed m) where
       take-at (m .payload) (trailer (body m)) (length (content m) - 8) (sym data-length) in
       λ i. record { id = m .id; kind = m .kind; repeat = m .repeat; address = m .address; payload = e i }
 
-  pub judge-content : ok m ≡ true → (wire : List ℕ) → judge (content m) wire ≡ accepted m
+  pub judge-content : ok m ≡ true → (wire : List ℕ) → judge (content m) wire ≡ acceptedFrame m
   judge-content h wire =
-      rw (le-ltb (length (content m)) 8 (omega (arith, content-length m)), check-content, fields-content h) (ap accepted message-content)
+      let p : Passed (content m) = record { long = omega (arith, content-length m); checked = check-content; fields = fields-content h } in
+      rw (eq-eqb (faultOf (content m)) 0 (no-fault (content m) p)) (ap acceptedFrame message-content)

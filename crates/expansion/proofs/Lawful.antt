@@ -10,9 +10,9 @@ use borrow.Author.Tests.{le-leb}
 use Rattle.runs.specs.Runs.{Bytes}
 use Rattle.runs.proofs.Bytes.{bytes-append, bytes-one}
 use Rattle.runs.proofs.Cases.{by-eqb}
-use Rattle.framing.specs.State.{knownState, stateOf}
+use Rattle.framing.specs.State.{knownState}
 use Rattle.framing.specs.declared.State.{State}
-use Rattle.framing.proofs.States.{shared-next, shared-leaves}
+use Rattle.framing.proofs.States.{stateOf, shared-next, shared-leaves}
 use Rattle.framing.proofs.Lawful.{Lawful}
 use Rattle.escape.specs.Code.{hide}
 use Rattle.escape.specs.Expansion.{expansion}
@@ -21,7 +21,7 @@ use Rattle.expansion.specs.Rules.{Phase, hunting, inside, size, gathered
 use Rattle.expansion.specs.Contract.{modeOf, phaseOf, link}
 use Rattle.escape.proofs.Expansion.{expansion-bytes}
 use Rattle.expansion.proofs.Judge.{content, content-bytes}
-use Rattle.expansion.proofs.Cut.{Good, reached, takes}
+use Rattle.expansion.proofs.OnByte.{Good, reached, takes}
 use Rattle.expansion.proofs.Readback.{reads-frame}
 
 -- the state of a phase is known, and stands for the phase

@@ -12,19 +12,20 @@ use Rattle.runs.specs.Runs.{Bytes, over}
 use Rattle.runs.proofs.Bytes.{bytes-left, bytes-right, bytes-append, bytes-take}
 use Rattle.runs.proofs.Cases.{by-test, by-eqb, by-ltb}
 use Rattle.framing.specs.Receiver.{Fed, feed, emit, last, join}
-use Rattle.framing.specs.Segment.{Segment, refused, Event, refusal, Config, step, eventOf, wires}
+use Rattle.framing.specs.Segment.{Segment, refusedFrame, Event, refusal, eventOf, wires}
 use Rattle.framing.specs.Link.{Lent, stepOn, callOn}
 use Rattle.framing.specs.Claims.{segments}
 use Rattle.framing.proofs.Feed.{last-byte, used-some, used-le, events-append, last-append}
-use Rattle.framing.proofs.Segments.{phase-last}
+use Rattle.framing.proofs.Segments.{Config, step, phase-last}
 use Rattle.framing.proofs.Lawful.{at, Counts, counts-last, driven, accounted}
 use Rattle.framing.specs.declared.State.{State}
 use Rattle.escape.specs.Code.{Meaning, byte, waits, start, end, wrong, meaning, hide}
 use Rattle.escape.specs.Expansion.{expansion}
 use Rattle.expansion.specs.Frame.{Message, enclose, frame}
-use Rattle.expansion.specs.Rules.{Phase, hunting, inside, size, gathered, held, checkRight, fieldsOk, act, cut}
+use Rattle.expansion.specs.Rules.{Phase, hunting, inside, size, gathered, held, faultOf, act, onByte}
 use Rattle.expansion.specs.Contract.{phaseOf, link}
 use Rattle.expansion.specs.Claims.{gatheredBefore, Stands, RefusedHeader, afterStream, RefusedAsSent}
+use Rattle.expansion.proofs.Passed.{checked-long}
 use Rattle.expansion.proofs.Hidden.{Meant, meant}
 use Rattle.expansion.proofs.Lawful.{lawful}
 
@@ -35,7 +36,7 @@ other n h e = h (cc)
 record Eight (g wire : List ℕ) (m : Meaning) (r : Phase × Option (Segment Message)) : Type 0 where
   ended : m ≡ end
   long : 8 ≤ length g
-  closes : r ≡ (hunting, some (refused 8 wire))
+  closes : r ≡ (hunting, some (refusedFrame 8 wire))
 
 act-eight : (g before wire : List ℕ) (m : Meaning) → eventOf (act g before wire m .1) ≡ some (refusal 8) → Eight g wire m (act g before wire m)
 act-eight g before wire (byte b) =
@@ -44,28 +45,27 @@ act-eight g before wire (byte b) =
 act-eight g before wire waits = λ e. absurd (Option·none-ne-some _ e)
 act-eight g before wire start = λ e. absurd (other 4 (λ q. omega arith) e)
 act-eight g before wire end =
-    by-ltb Q (length g) 8 (λ _ e. absurd (other 6 (λ q. omega arith) e)) (λ l.
-    by-test Q (checkRight g)
-    (λ _. by-test Q (fieldsOk g) (λ _ e. absurd (let z : _≡_ {A = ℕ} 0 1 = cc in omega arith)) (λ _ e. absurd (other 9 (λ q. omega arith) e)))
-    (λ _ _. record { ended = refl; long = l; closes = refl }))
+    by-eqb Q (faultOf g) 0 (λ _ e. absurd (let z : _≡_ {A = ℕ} 0 1 = cc in omega arith))
+    (λ _ e. let n : faultOf g ≡ 8 = cc in
+    record { ended = refl; long = checked-long g n; closes = ap (λ (k : ℕ). (hunting, some (refusedFrame k wire))) n })
   where
     Q : Segment Message → Type 0
     Q s = eventOf (some s) ≡ some (refusal 8) → Eight g wire end (hunting, some s)
 act-eight g before wire wrong = λ e. absurd (other 7 (λ q. omega arith) e)
 
-hunting-quiet : (b : ℕ) → eventOf (cut hunting b .1) ≡ some (refusal 8) → ⊥
+hunting-quiet : (b : ℕ) → eventOf (onByte hunting b .1) ≡ some (refusal 8) → ⊥
 hunting-quiet b =
     by-eqb (λ (r : Phase × Option (Segment Message)). eventOf (r .1) ≡ some (refusal 8) → ⊥) b 0xFD (λ _ e. Option·none-ne-some _ e) (λ _ e. Option·none-ne-some _ e)
 
 -- in any phase: enough was gathered, and what is refused is what was held, with the byte ..
-cut-eight : (p : Phase) (b : ℕ) → eventOf (cut p b .1) ≡ some (refusal 8) → (8 ≤ length (gathered p)) × (cut p b ≡ (hunting, some (refused 8 (held p ++ (b ∷ [])))))
-cut-eight hunting b e = absurd (hunting-quiet b e)
-cut-eight (inside w g) b e =
+byte-eight : (p : Phase) (b : ℕ) → eventOf (onByte p b .1) ≡ some (refusal 8) → (8 ≤ length (gathered p)) × (onByte p b ≡ (hunting, some (refusedFrame 8 (held p ++ (b ∷ [])))))
+byte-eight hunting b e = absurd (hunting-quiet b e)
+byte-eight (inside w g) b e =
     let h = act-eight g (held (inside w g)) (held (inside w g) ++ (b ∷ [])) (meaning expansion w b) e in
     (h .long, h .closes)
 
 -- .. that is the gathered bytes, hidden between the marks
-enclosed : (p : Phase) (b : ℕ) → b < 256 → eventOf (cut p b .1) ≡ some (refusal 8) → held p ++ (b ∷ []) ≡ enclose (gathered p)
+enclosed : (p : Phase) (b : ℕ) → b < 256 → eventOf (onByte p b .1) ≡ some (refusal 8) → held p ++ (b ∷ []) ≡ enclose (gathered p)
 enclosed hunting b y e = absurd (hunting-quiet b e)
 enclosed (inside w g) b y e =
     let h = act-eight g (held (inside w g)) (held (inside w g) ++ (b ∷ [])) (meaning expansion w b) e in
@@ -80,7 +80,7 @@ front-gathered s store =
 
 step-eight : (c : Lent link) (b : ℕ) (d : Lent link) → stepOn link c b ≡ (d, some (refusal 8)) → Stands (gathered (phaseOf (c .0) (c .1))) (d .1)
 step-eight c b d e =
-    let h = cut-eight (phaseOf (c .0) (c .1)) b (ap (λ (x : Lent link × Option (Event Message)). x .1) e) in
+    let h = byte-eight (phaseOf (c .0) (c .1)) b (ap (λ (x : Lent link × Option (Event Message)). x .1) e) in
     let same : d .1 ≡ c .1 = ap (λ (x : Lent link × Option (Event Message)). x .0 .1) (sym e) ∙ ap (λ (x : Phase × Option (Segment Message)). over (gathered (x .0)) (c .1)) (h .1) in
     record { long = h .0; here = rw same (front-gathered (c .0) (c .1)) }
 
@@ -107,9 +107,9 @@ refused-as-sent pieces piece store y room h = (
   gathered q,
   record {
     before = segments link earlier;
-    ends = ap (segments link) stream ∙ events-append cut hunting earlier (b ∷ [])
-        ∙ ap (λ (r : Phase × Option (Segment Message)). segments link earlier ++ emit (r .1) []) (cut-eight q b gives .1)
-        ∙ ap (λ (w : List ℕ). segments link earlier ++ (refused 8 w ∷ [])) (enclosed q b (y′ (f .used - 1)) gives);
+    ends = ap (segments link) stream ∙ events-append onByte hunting earlier (b ∷ [])
+        ∙ ap (λ (r : Phase × Option (Segment Message)). segments link earlier ++ emit (r .1) []) (byte-eight q b gives .1)
+        ∙ ap (λ (w : List ℕ). segments link earlier ++ (refusedFrame 8 w ∷ [])) (enclosed q b (y′ (f .used - 1)) gives);
     wire = stream ∙ ap (λ (x : List ℕ). x ++ (b ∷ [])) (sym (accounted link lawful earlier early))
         ∙ append-assoc (wires frame (segments link earlier)) (held q) (b ∷ []) ∙ ap (λ (w : List ℕ). wires frame (segments link earlier) ++ w) (enclosed q b (y′ (f .used - 1)) gives);
     stands = subst (λ (g : List ℕ). Stands g (callOn link c piece .after .1)) same (refused-header c piece h);
@@ -122,7 +122,7 @@ refused-as-sent pieces piece store y room h = (
     c : Lent link
     c = afterStream pieces store
 
-    counts : Counts link lawful c (last (step cut) (at hunting 0) (join pieces))
+    counts : Counts link lawful c (last (step onByte) (at hunting 0) (join pieces))
     counts = driven link lawful pieces store (bytes-left (join pieces) piece y) room .1
 
     f : Fed (Event Message) (Lent link)
@@ -148,21 +148,21 @@ refused-as-sent pieces piece store y room h = (
     early = bytes-append (join pieces) front (bytes-left (join pieces) piece y) (bytes-take (f .used - 1) piece y′)
 
     q : Phase
-    q = last cut hunting earlier
+    q = last onByte hunting earlier
 
     phase : phaseOf (last (stepOn link) c front .0) (last (stepOn link) c front .1) ≡ q
     phase =
-        counts-last link lawful c (last (step cut) (at hunting 0) (join pieces)) front (bytes-take (f .used - 1) piece y′) counts .stands .phase
-        ∙ ap (λ (a : Config Phase). a .phase) (sym (last-append (step cut) (at hunting 0) (join pieces) front)) ∙ phase-last cut (at hunting 0) earlier
+        counts-last link lawful c (last (step onByte) (at hunting 0) (join pieces)) front (bytes-take (f .used - 1) piece y′) counts .stands .phase
+        ∙ ap (λ (a : Config Phase). a .phase) (sym (last-append (step onByte) (at hunting 0) (join pieces) front)) ∙ phase-last onByte (at hunting 0) earlier
 
     same : gatheredBefore c piece ≡ gathered q
     same =
         ap (λ (x : Fed (Event Message) (Lent link)). let d = last (stepOn link) c (take (x .used - 1) piece) in gathered (phaseOf (d .0) (d .1))) fed
         ∙ ap gathered phase
 
-    gives : eventOf (cut q b .1) ≡ some (refusal 8)
+    gives : eventOf (onByte q b .1) ≡ some (refusal 8)
     gives =
-        ap (λ (p : Phase). eventOf (cut p b .1)) (sym phase)
+        ap (λ (p : Phase). eventOf (onByte p b .1)) (sym phase)
         ∙ ap (λ (x : Lent link × Option (Event Message)). x .1) (last-byte (stepOn link) c piece (refusal 8) event)
 
     used : take (f .used) piece ≡ front ++ (b ∷ [])

@@ -7,14 +7,30 @@ use mathlib.Core.Option.{some}
 use lib.ListN.{length, take}
 use Rattle.runs.specs.Runs.{Bytes}
 use Rattle.framing.specs.Receiver.{last, drive, join}
-use Rattle.framing.specs.Segment.{Segment, refused, refusal, wires}
+use Rattle.framing.specs.Segment.{Segment, refusedFrame, refusal, wires}
 use Rattle.framing.specs.Link.{Lent, stepOn, callOn, called}
 use Rattle.framing.specs.Claims.{segments}
+use Rattle.framing.specs.Refusals as Refusals
+use Rattle.framing.specs.Places as Places
 use Rattle.expansion.specs.Frame.{Message, ok, enclose, frame}
 use Rattle.expansion.specs.Rules.{size, gathered}
 use Rattle.expansion.specs.Contract.{phaseOf, link}
 
--- the longest frame has 2,066 bytes on the wire
+-- a new start, a byte too many, the least size, a wrong code, the CRC, the fields; no length is stated
+abbrev pub streamNumbers : List ℕ
+streamNumbers = 4 ∷ 5 ∷ 6 ∷ 7 ∷ 8 ∷ 9 ∷ []
+
+abbrev pub GivesExactly : Type 0
+GivesExactly = Refusals.GivesExactly link streamNumbers
+
+abbrev pub ReceiveGives : Type 0
+ReceiveGives = Refusals.ReceiveGives link streamNumbers
+
+-- a byte that makes an event is not gathered; nothing is unpacked
+abbrev pub StoresGathered : Type 0
+StoresGathered = Places.StoresGathered link (λ g b. g) (λ m. [])
+
+-- no frame has more than 2,066 bytes on the wire
 abbrev pub FrameBound : Type 0
 FrameBound = (m : Message) → ok m ≡ true → length (frame m) ≤ 2066
 
@@ -37,7 +53,7 @@ RefusedHeader =
 -- the last segment of a stream is a frame refused with 8: on the wire it is g, hidden between the marks, and g stands at the start of the store
 pub record RefusedFrame (stream store g : List ℕ) : Type 0 where
   pub before : List (Segment Message)
-  pub ends : segments link stream ≡ before ++ (refused 8 (enclose g) ∷ [])
+  pub ends : segments link stream ≡ before ++ (refusedFrame 8 (enclose g) ∷ [])
   pub wire : stream ≡ wires frame before ++ enclose g
   pub stands : Stands g store
 
@@ -49,5 +65,5 @@ afterStream pieces store = drive (called link) (link .fresh, store) pieces .1
 abbrev pub RefusedAsSent : Type 0
 RefusedAsSent =
     (pieces : List (List ℕ)) (piece store : List ℕ) → Bytes (join pieces ++ piece) → size ≤ length store
-    → callOn link (afterStream pieces store) piece .event ≡ some (refusal 8)
-    → (g : List ℕ) × RefusedFrame (join pieces ++ take (callOn link (afterStream pieces store) piece .used) piece) (callOn link (afterStream pieces store) piece .after .1) g
+    → let f = callOn link (afterStream pieces store) piece in
+    f .event ≡ some (refusal 8) → (g : List ℕ) × RefusedFrame (join pieces ++ take (f .used) piece) (f .after .1) g

@@ -5,11 +5,11 @@ use mathlib.Core.List.{List}
 use lib.ListN.{length, take}
 use lib.Dec.{eqb}
 use Rattle.framing.specs.State.{freshState, knownState, stateAfter}
-use Rattle.framing.specs.Link.{Link, Lent, Told, nothing, numbers, number, dataAt}
+use Rattle.framing.specs.Link.{Link, Lent, Told, nothing, accepted, refused, dataAt}
 use Rattle.framing.specs.declared.State.{State}
-use Rattle.expansion.specs.Frame.{Typed, ok, frame}
+use Rattle.expansion.specs.Frame.{Typed, withFields, ok, frame}
 use Rattle.expansion.specs.Frame as Frame
-use Rattle.expansion.specs.Rules.{Phase, hunting, inside, size, gathered, held, cut}
+use Rattle.expansion.specs.Rules.{Phase, hunting, inside, size, gathered, held, onByte}
 use Rattle.expansion.specs.declared.Message.{Message}
 use Rattle.expansion.specs.declared.Event.{Event}
 use Rattle.expansion.specs.declared.Event.the-variants.{Nothing, Accepted, Refused}
@@ -34,7 +34,7 @@ dataOf store m = dataAt 4 (m .length) store
 
 -- the message that a caller has of its numbers and the store
 abbrev pub messageOf : List ℕ → Message → Frame.Message
-messageOf store m = record { id = m .id; kind = m .kind; repeat = m .repeat; address = m .address; payload = dataOf store m }
+messageOf store m = withFields (m .id) (m .kind) (m .repeat) (m .address) (dataOf store m)
 
 -- the link: three modes, of which the first hunts
 abbrev pub link : Link
@@ -46,7 +46,7 @@ link =
       frame = frame;
       Phase = Phase;
       hunting = hunting;
-      cut = cut;
+      onByte = onByte;
       gathered = gathered;
       held = held;
       size = size;
@@ -57,7 +57,7 @@ link =
       «open» = λ s. s .«open»;
       phaseOf = phaseOf;
       stateAfter = stateAfter modeOf gathered held;
-      front = λ p b. gathered (cut p b .0);
+      front = λ p b. gathered (onByte p b .0);
       Numbers = Message;
       numbersOf = numbersOf;
       messageOf = messageOf;
@@ -66,9 +66,9 @@ link =
 -- each case of the receiver's answer
 abbrev pub toldOf : Event → Told Message
 toldOf Nothing = nothing
-toldOf (Accepted m) = numbers m
-toldOf (Refused n) = number n
+toldOf (Accepted m) = accepted m
+toldOf (Refused n) = refused n
 
 -- an answer with the store after the call
-abbrev pub answerOf : Received → List ℕ → Told Message × ℕ × Lent link
-answerOf r store = (toldOf (r .event), r .used, (r .state, store))
+abbrev pub receivedOf : Received → List ℕ → Told Message × ℕ × Lent link
+receivedOf r store = (toldOf (r .event), r .used, (r .state, store))

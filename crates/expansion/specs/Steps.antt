@@ -17,7 +17,7 @@ use Rattle.expansion.specs.declared.Stepped.{Stepped}
 use Rattle.framing.specs.declared.Reached.{Reached}
 
 -- what is answered of a byte, and the store after it, by what the rules give: the phase after it, and the segment that it closes
-pub record Answers (s : State) (store : List ℕ) (c : Phase × Option (Segment Frame.Message)) (r : Stepped) (after : List ℕ) : Type 0 where
+pub record ByRules (s : State) (store : List ℕ) (c : Phase × Option (Segment Frame.Message)) (r : Stepped) (after : List ℕ) : Type 0 where
   pub tells : toldOf (r .event) ≡ told link (eventOf (c .1))
   pub state : r .state ≡ stateAfter modeOf gathered held s (c .0) (c .1)
   pub stored : after ≡ over (gathered (c .0)) store

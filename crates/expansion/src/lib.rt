@@ -16,13 +16,13 @@ ghost use Rattle.framing.specs.Answer.{outcomeOf, storedAt};
 ghost use Rattle.framing.specs.Writer.{writes};
 ghost use Rattle.framing.specs.Receiver.{feed};
 ghost use Rattle.framing.specs.Segment.{eventOf};
-ghost use Rattle.framing.specs.Link.{isEvent, told, stepOn, answered, answer};
+ghost use Rattle.framing.specs.Link.{isEvent, told, stepOn, reported, receives};
 ghost use Rattle.escape.specs.Code.{meaningOf, meaning};
 ghost use Rattle.escape.specs.Expansion as Escape;
-ghost use Rattle.expansion.specs.Frame.{kindOk, ok, enclose, frame};
-ghost use Rattle.expansion.specs.Rules.{hunting, size, checkRight, judge, gather, act, cut};
-ghost use Rattle.expansion.specs.Contract.{phaseOf, dataOf, link, toldOf, answerOf};
-ghost use Rattle.expansion.specs.Steps.{Answers, Room, Passes};
+ghost use Rattle.expansion.specs.Frame.{withFields, kindOk, ok, enclose, frame};
+ghost use Rattle.expansion.specs.Rules.{hunting, size, checkRight, faultOf, messageIn, judge, gather, act, onByte};
+ghost use Rattle.expansion.specs.Contract.{phaseOf, numbersOf, dataOf, link, toldOf, receivedOf};
+ghost use Rattle.expansion.specs.Steps.{ByRules, Room, Passes};
 
 // The least store of a receiver: a header of 4 bytes, at most 1,024 of data, a CRC of 4.
 const SIZE: usize = 1032;
@@ -57,39 +57,40 @@ struct Stepped {
 }
 
 // Whether a message of this type may carry so much data.
-fn kind_ok(kind: u8, length: usize) -> bool
-    ensures { λ r. ⌜ r ≡ kindOk kind length ⌝ }
+fn kind_ok(kind: u8, count: usize) -> bool
+    ensures { λ r. ⌜ r ≡ kindOk kind count ⌝ }
 {
-    kind == 0 || (kind <= 2 && length == 0)
+    kind == 0 || (kind <= 2 && count == 0)
 }
 
 // Whether the fields of a message with so much data are allowed.
-fn fields_ok(kind: u8, repeat: u8, length: usize) -> bool
-    ensures { λ r. ⌜ r ≡ (kindOk kind length && leb repeat 3) ⌝ }
+fn fields_ok(kind: u8, repeat: u8, count: usize) -> bool
+    ensures { λ r. ⌜ r ≡ (kindOk kind count && leb repeat 3) ⌝ }
 {
-    kind_ok(kind, length) && repeat <= 3
+    kind_ok(kind, count) && repeat <= 3
 }
 
 // Whether a message may be sent.
-fn is_sendable(kind: u8, repeat: u8, length: usize) -> bool
-    ensures { λ r. ⌜ r ≡ (kindOk kind length && (leb repeat 3 && leb length 1024)) ⌝ }
+fn is_sendable(kind: u8, repeat: u8, count: usize) -> bool
+    ensures { λ r. ⌜ r ≡ (kindOk kind count && (leb repeat 3 && leb count 1024)) ⌝ }
 {
-    fields_ok(kind, repeat, length) && length <= 1024
+    fields_ok(kind, repeat, count) && count <= 1024
 }
 
 // Stores a frame at the start, and answers its length.
 fn put_frame(header: &[u8], data: &[u8], trailer: &[u8], out: &mut [u8]) -> usize
     requires { ⌜ length (enclose (now header ++ (now «data» ++ now trailer))) ≤ length (now out) ⌝ }
     ensures long { λ r. ⌜ r ≡ length (enclose (now (header .entry) ++ (now («data» .entry) ++ now (trailer .entry)))) ⌝ }
-    ensures put { λ r. ⌜ now (out .exit) ≡ sets (now (out .entry)) 0 (enclose (now (header .entry) ++ (now («data» .entry) ++ now (trailer .entry)))) ⌝ }
+    ensures put { λ r. ⌜ now (out .exit)
+        ≡ sets (now (out .entry)) 0 (enclose (now (header .entry) ++ (now («data» .entry) ++ now (trailer .entry)))) ⌝ }
 {
     out[0] = 0xFD;
-    let head = escape::expansion_hide_into(header, out, 1);
-    let a = 1 + framing::count_of(head);
-    let body = escape::expansion_hide_into(data, out, a);
-    let b = a + framing::count_of(body);
-    let check = escape::expansion_hide_into(trailer, out, b);
-    let c = b + framing::count_of(check);
+    let hidden_header = escape::expansion_hide_into(header, out, 1);
+    let a = 1 + framing::count_of(hidden_header);
+    let hidden_data = escape::expansion_hide_into(data, out, a);
+    let b = a + framing::count_of(hidden_data);
+    let hidden_trailer = escape::expansion_hide_into(trailer, out, b);
+    let c = b + framing::count_of(hidden_trailer);
     out[c] = 0xFE;
     c + 1
 }
@@ -121,7 +122,8 @@ fn has_room(header: &[u8], data: &[u8], trailer: &[u8], memory: usize) -> bool
 // Stores a frame at the start, if it fits.
 fn send(header: &[u8], data: &[u8], trailer: &[u8], out: &mut [u8]) -> Answer
     requires { ⌜ length (now header ++ (now «data» ++ now trailer)) ≤ size ⌝ }
-    ensures { λ r. ⌜ (outcomeOf r, now (out .exit)) ≡ storedAt (enclose (now (header .entry) ++ (now («data» .entry) ++ now (trailer .entry)))) (now (out .entry)) 0 ⌝ }
+    ensures { λ r. ⌜ (outcomeOf r, now (out .exit))
+        ≡ storedAt (enclose (now (header .entry) ++ (now («data» .entry) ++ now (trailer .entry)))) (now (out .entry)) 0 ⌝ }
 {
     if has_room(header, data, trailer, out.len()) {
         let n = put_frame(header, data, trailer, out);
@@ -133,7 +135,8 @@ fn send(header: &[u8], data: &[u8], trailer: &[u8], out: &mut [u8]) -> Answer
 
 // Writes the frame of a message at the start of the lent memory, and answers its length.
 pub fn write(id: u8, kind: u8, repeat: u8, address: u8, data: &[u8], out: &mut [u8]) -> Answer
-    ensures { λ r. ⌜ (outcomeOf r, now (out .exit)) ≡ writes ok frame (record { id = id; kind = kind; repeat = repeat; address = address; payload = now («data» .entry) }) (now (out .entry)) ⌝ }
+    ensures { λ r. ⌜ (outcomeOf r, now (out .exit))
+        ≡ writes ok frame (withFields id kind repeat address (now («data» .entry))) (now (out .entry)) ⌝ }
 {
     if is_sendable(kind, repeat, data.len()) {
         let header = [id, kind, repeat, address];
@@ -149,7 +152,7 @@ pub fn write(id: u8, kind: u8, repeat: u8, address: u8, data: &[u8], out: &mut [
 // Hunting: an FD opens a frame, any other byte is noise.
 fn hunt(state: State, byte: u8) -> Stepped
     requires { ⌜ state .mode ≡ 0 ⌝ }
-    ensures { λ r. ⌜ ((store : List ℕ) → Answers state store (cut hunting byte) r store) ⌝ }
+    ensures { λ r. ⌜ ((store : List ℕ) → ByRules state store (onByte hunting byte) r store) ⌝ }
 {
     if byte == 0xFD {
         Stepped {
@@ -167,7 +170,8 @@ fn hunt(state: State, byte: u8) -> Stepped
 // One more byte is gathered, unless the link's size is reached.
 fn gather_byte(state: State, store: &mut [u8], byte: u8) -> Stepped
     requires { ⌜ (state .mode ≡ 0 → ⊥) × Room state (now store) ⌝ }
-    ensures { λ r. ⌜ ((wire : List ℕ) → Answers state (now (store .entry)) (gather (take (state .count) (now (store .entry))) byte wire) r (now (store .exit))) ⌝ }
+    ensures { λ r. ⌜ ((wire : List ℕ)
+        → ByRules state (now (store .entry)) (gather (take (state .count) (now (store .entry))) byte wire) r (now (store .exit))) ⌝ }
 {
     let at = state.count;
     if at < SIZE {
@@ -184,40 +188,55 @@ fn gather_byte(state: State, store: &mut [u8], byte: u8) -> Stepped
     }
 }
 
-// Whether the CRC in the last four of so many bytes is that of those before it.
-fn check_right(store: &[u8], count: usize) -> bool
-    requires { ⌜ (4 ≤ count) × (count ≤ length (now store)) ⌝ }
-    ensures { λ r. ⌜ r ≡ checkRight (take count (now (store .entry))) ⌝ }
+// Whether the CRC in the last four bytes is that of those before it.
+fn check_right(gathered: &[u8]) -> bool
+    requires { ⌜ 4 ≤ length (now gathered) ⌝ }
+    ensures { λ r. ⌜ r ≡ checkRight (now (gathered .entry)) ⌝ }
 {
-    let end = count - 4;
-    runs::number_at(store, end, 4) == checksum::crc32(&store[..end])
+    let end = gathered.len() - 4;
+    runs::number_at(gathered, end, 4) == checksum::crc32(&gathered[..end])
 }
 
-// The end of a frame with so many gathered bytes.
-fn judge_frame(store: &[u8], count: usize) -> Event
-    requires { ⌜ (count ≤ size) × (size ≤ length (now store)) ⌝ }
-    ensures { λ r. ⌜ ((wire : List ℕ) → toldOf r ≡ told link (eventOf (some (judge (take count (now (store .entry))) wire)))) ⌝ }
+// The number of the first test that a frame's gathered bytes fail, 0 where they pass all.
+fn fault_of(gathered: &[u8]) -> u8
+    ensures { λ r. ⌜ r ≡ faultOf (now (gathered .entry)) ⌝ }
 {
+    let count = gathered.len();
     if count < 8 {
-        return Event::Refused(refusal::TOO_SHORT);
+        return refusal::TOO_SHORT;
     }
-    if check_right(store, count) {
-        let kind = store[1];
-        let repeat = store[2];
-        if fields_ok(kind, repeat, count - 8) {
-            Event::Accepted(Message {
-                id: store[0],
-                kind: kind,
-                repeat: repeat,
-                address: store[3],
-                length: count - 8,
-            })
-        } else {
-            Event::Refused(refusal::WRONG_FIELD)
-        }
-    } else {
-        Event::Refused(refusal::WRONG_CHECK)
+    if !check_right(gathered) {
+        return refusal::WRONG_CHECK;
     }
+    if !fields_ok(gathered[1], gathered[2], count - 8) {
+        return refusal::WRONG_FIELD;
+    }
+    0
+}
+
+// The message of a frame's gathered bytes.
+fn message_of(gathered: &[u8]) -> Message
+    requires { ⌜ 8 ≤ length (now gathered) ⌝ }
+    ensures { λ r. ⌜ r ≡ numbersOf (messageIn (now (gathered .entry))) ⌝ }
+{
+    Message {
+        id: gathered[0],
+        kind: gathered[1],
+        repeat: gathered[2],
+        address: gathered[3],
+        length: gathered.len() - 8,
+    }
+}
+
+// The end of a frame.
+fn judge_frame(gathered: &[u8]) -> Event
+    ensures { λ r. ⌜ ((wire : List ℕ) → toldOf r ≡ told link (eventOf (some (judge (now (gathered .entry)) wire)))) ⌝ }
+{
+    let fault = fault_of(gathered);
+    if fault != 0 {
+        return Event::Refused(fault);
+    }
+    Event::Accepted(message_of(gathered))
 }
 
 // What a byte of an open frame means, in mode 2 after an FF.
@@ -234,7 +253,9 @@ fn meaning_in(mode: usize, byte: u8) -> Meaning
 // A byte of an open frame, by its meaning.
 fn act_on(state: State, store: &mut [u8], meaning: Meaning) -> Stepped
     requires { ⌜ (state .mode ≡ 0 → ⊥) × Room state (now store) ⌝ }
-    ensures { λ r. ⌜ ((before wire : List ℕ) → Answers state (now (store .entry)) (act (take (state .count) (now (store .entry))) before wire (meaningOf meaning)) r (now (store .exit))) ⌝ }
+    ensures { λ r. ⌜ ((before wire : List ℕ)
+        → ByRules state (now (store .entry)) (act (take (state .count) (now (store .entry))) before wire (meaningOf meaning))
+        r (now (store .exit))) ⌝ }
 {
     match meaning {
         Meaning::Byte(byte) => gather_byte(state, store, byte),
@@ -247,7 +268,7 @@ fn act_on(state: State, store: &mut [u8], meaning: Meaning) -> Stepped
             state: framing::reopen(state, 1, 0, 1), // no FF waits behind the FD
         },
         Meaning::End => Stepped {
-            event: judge_frame(store, state.count),
+            event: judge_frame(&store[..state.count]),
             state: framing::close(state),
         },
         Meaning::Wrong => Stepped {
@@ -260,7 +281,7 @@ fn act_on(state: State, store: &mut [u8], meaning: Meaning) -> Stepped
 // One byte, in any mode.
 fn step(state: State, store: &mut [u8], byte: u8) -> Stepped
     requires { ⌜ Room state (now store) ⌝ }
-    ensures { λ r. ⌜ Answers state (now (store .entry)) (cut (phaseOf state (now (store .entry))) byte) r (now (store .exit)) ⌝ }
+    ensures { λ r. ⌜ ByRules state (now (store .entry)) (onByte (phaseOf state (now (store .entry))) byte) r (now (store .exit)) ⌝ }
 {
     let mode = state.mode;
     if mode == 0 {
@@ -315,7 +336,7 @@ fn advance(state: State, store: &mut [u8], piece: &[u8], from: usize) -> Reached
 // The bytes of a piece, until one makes an event.
 fn scan(state: State, store: &mut [u8], piece: &[u8]) -> Received
     requires { ⌜ Room state (now store) ⌝ }
-    ensures { λ r. ⌜ answerOf r (now (store .exit)) ≡ answered link (feed (stepOn link) (state, now (store .entry)) (now (piece .entry))) ⌝ }
+    ensures { λ r. ⌜ receivedOf r (now (store .exit)) ≡ reported link (feed (stepOn link) (state, now (store .entry)) (now (piece .entry))) ⌝ }
 {
     let mut current = state;
     let mut i = 0;
@@ -347,7 +368,7 @@ fn scan(state: State, store: &mut [u8], piece: &[u8]) -> Received
 
 // A call of the receiver: uses the bytes of the piece until one makes an event, that one included.
 pub fn receive(state: State, store: &mut [u8], piece: &[u8]) -> Received
-    ensures { λ r. ⌜ answerOf r (now (store .exit)) ≡ answer link (state, now (store .entry)) (now (piece .entry)) ⌝ }
+    ensures { λ r. ⌜ receivedOf r (now (store .exit)) ≡ receives link (state, now (store .entry)) (now (piece .entry)) ⌝ }
 {
     if framing::is_known(state, 3, 1, SIZE) {
         if SIZE <= store.len() {
@@ -372,14 +393,5 @@ pub fn receive(state: State, store: &mut [u8], piece: &[u8]) -> Received
 pub fn data(store: &[u8], message: Message) -> &[u8]
     ensures { λ r. ⌜ now r ≡ dataOf (now (store .entry)) message ⌝ }
 {
-    let length = message.length;
-    if store.len() < 4 {
-        return &store[..0];
-    }
-    if length <= store.len() - 4 {
-        let end = 4 + length;
-        &store[4..end]
-    } else {
-        &store[..0]
-    }
+    framing::data_at(store, 4, message.length)
 }

@@ -8,8 +8,8 @@ use native.Mathlib.Omega.{arith}
 use lib.ListN.{length, take, drop, length-append, take-append-drop}
 use lib.Seq.{take-append-seam, drop-at}
 use borrow.Author.Tests.{le-leb}
-use Rattle.runs.specs.Runs.{over}
-use Rattle.framing.specs.Segment.{Segment, noise, refused, accepted, wireOf, noiseAfter}
+use Rattle.runs.specs.Runs.{Bytes, over}
+use Rattle.framing.specs.Segment.{Segment, noise, refusedFrame, acceptedFrame, wireOf, noiseAfter}
 use Rattle.framing.specs.Link.{Link, dataAt}
 use Rattle.framing.proofs.Segments.{wireOpt, Accepts}
 
@@ -39,10 +39,11 @@ pub record Reached (L : Link) : Type 1 where
   pub held-first : L .held (L .hunting) ≡ []
   pub gathered-first : L .gathered (L .hunting) ≡ []
 
--- an accepted message, after which the receiver hunts: it may be sent, and is read back from its numbers and the store, at whose start
--- the gathered bytes g stood and now f stands
+-- an accepted message, after which the receiver hunts: it may be sent, its numbers fit their types where its frame is of bytes, and it is read
+-- back from its numbers and the store, at whose start the gathered bytes g stood and now f stands
 pub record Taken (L : Link) (g f : List ℕ) (q : L .Phase) (m : L .Message) : Type 0 where
   pub may : L .ok m ≡ true
+  pub typed : Bytes (L .frame m) → L .Typed m
   pub read : (store : List ℕ) → take (length g) store ≡ g → L .messageOf (over f store) (L .numbersOf m) ≡ m
   pub hunts : q ≡ L .hunting
 
@@ -60,7 +61,7 @@ module _ {L : Link} (X : Reached L) (g w : List ℕ) where
   goes-on q e h = record { holds = e; good = h; fits = X .fits q h; stands = λ store. take-append-seam (L .gathered q) _; accepts = tt }
 
   -- it is a new start, which opens the next frame
-  pub restarts : (q : L .Phase) (n : ℕ) (before : List ℕ) → before ++ L .held q ≡ w → X .Good q → Takes X g w (L .gathered q) (q, some (refused n before))
+  pub restarts : (q : L .Phase) (n : ℕ) (before : List ℕ) → before ++ L .held q ≡ w → X .Good q → Takes X g w (L .gathered q) (q, some (refusedFrame n before))
   restarts q n before e h = record { holds = e; good = h; fits = X .fits q h; stands = λ store. take-append-seam (L .gathered q) _; accepts = tt }
 
   -- it closes a segment and leaves hunting
@@ -72,15 +73,15 @@ module _ {L : Link} (X : Reached L) (g w : List ℕ) where
 -- the end of a frame with wire bytes w: it is refused with them, or a message is accepted of which Q holds
 abbrev pub Ends : {M : Type 0} → (M → Type 0) → List ℕ → Segment M → Type 0
 Ends Q w (noise bs) = ⊥
-Ends Q w (refused n bs) = bs ≡ w
-Ends Q w (accepted m) = Q m
+Ends Q w (refusedFrame n bs) = bs ≡ w
+Ends Q w (acceptedFrame m) = Q m
 
 -- what holds of both holds of it
 pub by-end : {M : Type 0} (P : Segment M → Type 0) (Q : M → Type 0) (w : List ℕ) (s : Segment M) → Ends Q w s
-    → ((n : ℕ) → P (refused n w)) → ((m : M) → Q m → P (accepted m)) → P s
+    → ((n : ℕ) → P (refusedFrame n w)) → ((m : M) → Q m → P (acceptedFrame m)) → P s
 by-end P Q w (noise bs) e r a = absurd e
-by-end P Q w (refused n bs) e r a = subst (λ (x : List ℕ). P (refused n x)) (sym e) (r n)
-by-end P Q w (accepted m) e r a = a m e
+by-end P Q w (refusedFrame n bs) e r a = subst (λ (x : List ℕ). P (refusedFrame n x)) (sym e) (r n)
+by-end P Q w (acceptedFrame m) e r a = a m e
 
 -- so it is no noise
 pub ends-quiet : {M : Type 0} (Q : M → Type 0) (w : List ℕ) (s : Segment M) → Ends Q w s → (n : ℕ) → noiseAfter (some s) n ≡ n

@@ -13,13 +13,8 @@ use Rattle.runs.proofs.Cases.{by-test, by-leb}
 use Rattle.runs.proofs.Run.{part-sets}
 use Rattle.runs.proofs.Begins.{begins-iff}
 use Rattle.framing.specs.Answer.{Outcome, done, refused, storedAt}
-use Rattle.framing.specs.Writer.{Call, writes, keeps, leaves, kept, wire}
+use Rattle.framing.specs.Writer.{Call, writes, frames, keeps, leaves, kept, wire}
 use Rattle.framing.specs.Claims.{AllOf}
-
--- the frames of a list of messages, end to end
-abbrev pub frames : {M : Type 0} → (M → List ℕ) → List M → List ℕ
-frames frame [] = []
-frames frame (m ∷ ms) = frame m ++ frames frame ms
 
 frames-append : {M : Type 0} (frame : M → List ℕ) (ms ns : List M) → frames frame (ms ++ ns) ≡ frames frame ms ++ frames frame ns
 frames-append frame [] ns = refl

@@ -10,17 +10,17 @@ use lib.ListN.{length, take, length-append, length-drop}
 use lib.Seq.{sets}
 use borrow.Author.Tests.{le-leb}
 use Rattle.runs.specs.Runs.{Bytes, over}
-use Rattle.runs.proofs.Bytes.{bytes-append}
+use Rattle.runs.proofs.Bytes.{bytes-append, bytes-left, bytes-right}
 use Rattle.runs.proofs.Run.{part-sets, sets-over}
 use Rattle.framing.specs.Answer.{Outcome, done}
 use Rattle.framing.specs.Receiver.{Fed, stop, feed, events, last, drive, join}
-use Rattle.framing.specs.Segment.{Segment, noise, refused, accepted, Event, message, refusal, Config, step, eventOf, noiseAfter, wires}
+use Rattle.framing.specs.Segment.{Segment, noise, refusedFrame, acceptedFrame, Event, message, refusal, eventOf, noiseAfter, wires}
 use Rattle.framing.specs.Writer.{writes}
 use Rattle.framing.specs.Link.{Link, Lent, stepOn, callOn, told, heardIn, called}
 use Rattle.framing.specs.Claims.{segments, openAt, WritesFrame, ReadsBack, Canonical, CutAnywhere, Accounted}
 use Rattle.framing.proofs.Stored.{stored-done}
 use Rattle.framing.proofs.Cutting.{Follows, cutting, feed-from, feed-follows}
-use Rattle.framing.proofs.Segments.{wireOpt, Accepts, accepts-map, AllAccept, accept-at, wires-append, partition, all-accepted, phase-last, heard-events, noise-last}
+use Rattle.framing.proofs.Segments.{Config, step, wireOpt, Accepts, accepts-map, AllAccept, accept-at, wires-append, partition, all-accepted, phase-last, heard-events, noise-last}
 use Rattle.framing.proofs.Byte.{Reached, Taken, Takes}
 
 abbrev pub at : {P : Type 0} → P → ℕ → Config P
@@ -29,7 +29,7 @@ at p n = record { phase = p; noise = n }
 -- in these fields p is a phase, b a byte and n a noise count
 pub record Lawful (L : Link) : Type 1 where
   pub reached : Reached L
-  pub takes : (p : L .Phase) (b : ℕ) → b < 256 → reached .Good p → Takes reached (L .gathered p) (L .held p ++ (b ∷ [])) (L .front p b) (L .cut p b)
+  pub takes : (p : L .Phase) (b : ℕ) → b < 256 → reached .Good p → Takes reached (L .gathered p) (L .held p ++ (b ∷ [])) (L .front p b) (L .onByte p b)
   -- the state of a phase and a noise count, known, with its counts; with what is gathered in the store it stands for the phase
   pub stateOf : L .Phase → ℕ → L .State
   pub noise-of : (p : L .Phase) (n : ℕ) → L .noise (stateOf p n) ≡ n
@@ -47,7 +47,7 @@ pub record Lawful (L : Link) : Type 1 where
   pub frame-bytes : (m : L .Message) → L .Typed m → L .ok m ≡ true → Bytes (L .frame m)
   pub frame-filled : (m : L .Message) → 0 < length (L .frame m)
   pub reads-frame : (m : L .Message) (rest : List ℕ) (n : ℕ) → L .Typed m → L .ok m ≡ true
-      → feed (step (L .cut)) (at (L .hunting) n) (L .frame m ++ rest)
+      → feed (step (L .onByte)) (at (L .hunting) n) (L .frame m ++ rest)
       ≡ record { event = some (message m); used = length (L .frame m); after = at (L .hunting) n }
 
 over-length : (front store : List ℕ) → length front ≤ length store → length (over front store) ≡ length store
@@ -66,32 +66,49 @@ module _ (L : Link) (laws : Lawful L) where
   abbrev Good : L .Phase → Type 0
   Good = laws .reached .Good
 
-  good-next : (p : L .Phase) (b : ℕ) → b < 256 → Good p → Good (L .cut p b .0)
+  good-next : (p : L .Phase) (b : ℕ) → b < 256 → Good p → Good (L .onByte p b .0)
   good-next p b y g = laws .takes p b y g .good
 
   -- a property of an accepted message
   accepted-is : (Q : L .Message → Type 0) (p : L .Phase) (b : ℕ) (y : b < 256) (g : Good p)
-      → ((m : L .Message) → Taken L (L .gathered p) (L .front p b) (L .cut p b .0) m → Q m) → Accepts Q (L .cut p b .1)
-  accepted-is Q p b y g f = accepts-map (Taken L (L .gathered p) (L .front p b) (L .cut p b .0)) Q (L .cut p b .1) f (laws .takes p b y g .accepts)
+      → ((m : L .Message) → Taken L (L .gathered p) (L .front p b) (L .onByte p b .0) m → Q m) → Accepts Q (L .onByte p b .1)
+  accepted-is Q p b y g f = accepts-map (Taken L (L .gathered p) (L .front p b) (L .onByte p b .0)) Q (L .onByte p b .1) f (laws .takes p b y g .accepts)
 
   pub accounted : Accounted L
   accounted bs y =
-      partition (L .frame) (L .held) (L .cut) Good good-next (λ p b y g. laws .takes p b y g .holds) (L .hunting) bs y (laws .reached .good-first)
+      partition (L .frame) (L .held) (L .onByte) Good good-next (λ p b y g. laws .takes p b y g .holds) (L .hunting) bs y (laws .reached .good-first)
       ∙ ap (λ (w : List ℕ). w ++ bs) (laws .reached .held-first)
 
-  pub all-sendable : (bs : List ℕ) → Bytes bs → AllAccept (λ m. L .ok m ≡ true) (segments L bs)
-  all-sendable bs y =
-      all-accepted (L .frame) (L .held) (L .cut) Good good-next (λ m. L .ok m ≡ true) (λ p b y g. accepted-is (λ m. L .ok m ≡ true) p b y g (λ m t. t .may))
+  -- what is known of an accepted message: it may be sent, and its numbers fit their types where its frame is of bytes
+  abbrev pub Writable : L .Message → Type 0
+  Writable m = (L .ok m ≡ true) × (Bytes (L .frame m) → L .Typed m)
+
+  pub all-writable : (bs : List ℕ) → Bytes bs → AllAccept Writable (segments L bs)
+  all-writable bs y =
+      all-accepted (L .frame) (L .held) (L .onByte) Good good-next Writable (λ p b y g. accepted-is Writable p b y g (λ m t. (t .may, t .typed)))
       (L .hunting) bs y (laws .reached .good-first)
 
   pub canonical : Canonical L
-  canonical bs y before after m e = (
-    accept-at (λ m. L .ok m ≡ true) before after m (subst (λ (ss : List (Segment (L .Message))). AllAccept (λ m. L .ok m ≡ true) ss) e (all-sendable bs y)),
-    sym (accounted bs y)
-        ∙ ap (λ (ss : List (Segment (L .Message))). wires (L .frame) ss ++ openAt L bs) e
-        ∙ ap (λ (w : List ℕ). w ++ openAt L bs)
-        (wires-append (L .frame) before (accepted m ∷ after) ∙ sym (append-assoc (wires (L .frame) before) (L .frame m) (wires (L .frame) after))),
-  )
+  canonical bs y before after m e = (known .0, known .1 (bytes-right earlier (L .frame m) (bytes-left (earlier ++ L .frame m) later whole-bytes)), whole)
+    where
+      earlier : List ℕ
+      earlier = wires (L .frame) before
+
+      later : List ℕ
+      later = wires (L .frame) after ++ openAt L bs
+
+      known : Writable m
+      known = accept-at Writable before after m (subst (λ (ss : List (Segment (L .Message))). AllAccept Writable ss) e (all-writable bs y))
+
+      whole : bs ≡ earlier ++ L .frame m ++ wires (L .frame) after ++ openAt L bs
+      whole =
+          sym (accounted bs y)
+          ∙ ap (λ (ss : List (Segment (L .Message))). wires (L .frame) ss ++ openAt L bs) e
+          ∙ ap (λ (w : List ℕ). w ++ openAt L bs)
+          (wires-append (L .frame) before (acceptedFrame m ∷ after) ∙ sym (append-assoc earlier (L .frame m) (wires (L .frame) after)))
+
+      whole-bytes : Bytes ((earlier ++ L .frame m) ++ later)
+      whole-bytes = subst Bytes (whole ∙ append-assoc (earlier ++ L .frame m) (wires (L .frame) after) (openAt L bs)) y
 
   -- what a caller makes of an event, through what it is told
   abbrev view : Lent L → Option (Event (L .Message)) → Option (Event (L .Message))
@@ -104,8 +121,8 @@ module _ (L : Link) (laws : Lawful L) where
   view-event : (c : Lent L) (o : Option (Segment (L .Message))) → Accepts (λ m. L .messageOf (c .1) (L .numbersOf m) ≡ m) o → view c (eventOf o) ≡ eventOf o
   view-event c none h = refl
   view-event c (some (noise bs)) h = refl
-  view-event c (some (refused n bs)) h = refl
-  view-event c (some (accepted m)) h = ap (λ (x : L .Message). some (message x)) h
+  view-event c (some (refusedFrame n bs)) h = refl
+  view-event c (some (acceptedFrame m)) h = ap (λ (x : L .Message). some (message x)) h
 
   -- a state and a store stand for a phase and a noise count
   pub record Stands (c : Lent L) (a : Config (L .Phase)) : Type 0 where
@@ -113,7 +130,7 @@ module _ (L : Link) (laws : Lawful L) where
     pub known : L .known (c .0) ≡ true
     pub noise : L .noise (c .0) ≡ a .noise
     next : (b : ℕ) → b < 256
-        → L .stateAfter (c .0) (L .cut (a .phase) b .0) (L .cut (a .phase) b .1) ≡ laws .stateOf (L .cut (a .phase) b .0) (noiseAfter (L .cut (a .phase) b .1) (a .noise))
+        → L .stateAfter (c .0) (L .onByte (a .phase) b .0) (L .onByte (a .phase) b .1) ≡ laws .stateOf (L .onByte (a .phase) b .0) (noiseAfter (L .onByte (a .phase) b .1) (a .noise))
     store : take (length (L .gathered (a .phase))) (c .1) ≡ L .gathered (a .phase)
     pub room : L .size ≤ length (c .1)
     good : Good (a .phase)
@@ -132,7 +149,7 @@ module _ (L : Link) (laws : Lawful L) where
           phase = laws .phase-of p n store g h;
           known = laws .known-of p n g;
           noise = laws .noise-of p n;
-          next = λ b y. let t = laws .takes p b y g in laws .state-next p (L .cut p b .0) (L .cut p b .1) n b (t .holds) (laws .reached .few (L .cut p b .0) (t .good));
+          next = λ b y. let t = laws .takes p b y g in laws .state-next p (L .onByte p b .0) (L .onByte p b .1) n b (t .holds) (laws .reached .few (L .onByte p b .0) (t .good));
           store = h;
           room = r;
           good = g;
@@ -142,97 +159,118 @@ module _ (L : Link) (laws : Lawful L) where
 
   -- one byte
   alike : (c : Lent L) (a : Config (L .Phase)) (b : ℕ) → b < 256 → Stands c a
-      → (view (stepOn L c b .0) (stepOn L c b .1) ≡ step (L .cut) a b .1) × Counts (stepOn L c b .0) (step (L .cut) a b .0)
+      → (view (stepOn L c b .0) (stepOn L c b .1) ≡ step (L .onByte) a b .1) × Counts (stepOn L c b .0) (step (L .onByte) a b .0)
   alike c a b y r =
       subst
-      (λ (p : L .Phase). (heardIn L (over (L .front p b) (c .1)) (told L (eventOf (L .cut p b .1))) ≡ step (L .cut) a b .1)
-      × Counts (L .stateAfter (c .0) (L .cut p b .0) (L .cut p b .1), over (L .front p b) (c .1)) (step (L .cut) a b .0)) (sym (r .phase)) (
-        view-event (c .0, over (L .front (a .phase) b) (c .1)) (L .cut (a .phase) b .1) (accepted-is _ (a .phase) b y (r .good) (λ m t. t .read (c .1) (r .store))),
-        counts-of (L .cut (a .phase) b .0) (noiseAfter (L .cut (a .phase) b .1) (a .noise))
-            (L .stateAfter (c .0) (L .cut (a .phase) b .0) (L .cut (a .phase) b .1)) (over (L .front (a .phase) b) (c .1)) (r .next b y)
+      (λ (p : L .Phase). (heardIn L (over (L .front p b) (c .1)) (told L (eventOf (L .onByte p b .1))) ≡ step (L .onByte) a b .1)
+      × Counts (L .stateAfter (c .0) (L .onByte p b .0) (L .onByte p b .1), over (L .front p b) (c .1)) (step (L .onByte) a b .0)) (sym (r .phase)) (
+        view-event (c .0, over (L .front (a .phase) b) (c .1)) (L .onByte (a .phase) b .1) (accepted-is _ (a .phase) b y (r .good) (λ m t. t .read (c .1) (r .store))),
+        counts-of (L .onByte (a .phase) b .0) (noiseAfter (L .onByte (a .phase) b .1) (a .noise))
+            (L .stateAfter (c .0) (L .onByte (a .phase) b .0) (L .onByte (a .phase) b .1)) (over (L .front (a .phase) b) (c .1)) (r .next b y)
             (good-next (a .phase) b y (r .good)) (laws .takes (a .phase) b y (r .good) .stands (c .1))
             (rw (over-length (L .front (a .phase) b) (c .1) (omega (arith, laws .takes (a .phase) b y (r .good) .fits, r .room))) (r .room)),
       )
 
   -- any bytes
-  pub counts-last : (c : Lent L) (a : Config (L .Phase)) (bs : List ℕ) → Bytes bs → Counts c a → Counts (last (stepOn L) c bs) (last (step (L .cut)) a bs)
+  pub counts-last : (c : Lent L) (a : Config (L .Phase)) (bs : List ℕ) → Bytes bs → Counts c a → Counts (last (stepOn L) c bs) (last (step (L .onByte)) a bs)
   counts-last c a [] y r = r
-  counts-last c a (b ∷ bs) y r = counts-last (stepOn L c b .0) (step (L .cut) a b .0) bs (λ i. y (suc i)) (alike c a b (y 0) (r .stands) .1)
+  counts-last c a (b ∷ bs) y r = counts-last (stepOn L c b .0) (step (L .onByte) a b .0) bs (λ i. y (suc i)) (alike c a b (y 0) (r .stands) .1)
 
   -- one call
-  follows : (c : Lent L) (a : Config (L .Phase)) (bs : List ℕ) → Bytes bs → Counts c a → Follows Counts (called L c bs) (feed (step (L .cut)) a bs)
+  pub follows : (c : Lent L) (a : Config (L .Phase)) (bs : List ℕ) → Bytes bs → Counts c a → Follows Counts (called L c bs) (feed (step (L .onByte)) a bs)
   follows c a bs y r =
       rw (r .stands .known, le-leb (L .size) (length (c .1)) (r .stands .room))
-      (feed-follows (stepOn L) view (step (L .cut)) Counts (λ _. refl) view-some (λ c a b y r. alike c a b y (r .stands)) c a bs y r)
+      (feed-follows (stepOn L) view (step (L .onByte)) Counts (λ _. refl) view-some (λ c a b y r. alike c a b y (r .stands)) c a bs y r)
+
+  -- the store keeps its length
+  step-length : (c : Lent L) (a : Config (L .Phase)) (b : ℕ) → b < 256 → Counts c a → length (stepOn L c b .0 .1) ≡ length (c .1)
+  step-length c a b y r =
+      subst (λ (p : L .Phase). length (over (L .front p b) (c .1)) ≡ length (c .1)) (sym (r .stands .phase))
+      (over-length (L .front (a .phase) b) (c .1) (omega (arith, laws .takes (a .phase) b y (r .stands .good) .fits, r .stands .room)))
+
+  feed-length : (c : Lent L) (a : Config (L .Phase)) (bs : List ℕ) → Bytes bs → Counts c a → length (feed (stepOn L) c bs .after .1) ≡ length (c .1)
+  feed-length c a [] y r = refl
+  feed-length c a (b ∷ bs) y r =
+      go (stepOn L c b .1) (step-length c a b (y 0) r)
+      (feed-length (stepOn L c b .0) (step (L .onByte) a b .0) bs (λ i. y (suc i)) (alike c a b (y 0) (r .stands) .1))
+    where
+      go : (o : Option (Event (L .Message))) → length (stepOn L c b .0 .1) ≡ length (c .1)
+          → length (feed (stepOn L) (stepOn L c b .0) bs .after .1) ≡ length (stepOn L c b .0 .1)
+          → length (stop (stepOn L c b .0) o (feed (stepOn L) (stepOn L c b .0) bs) .after .1) ≡ length (c .1)
+      go none h k = k ∙ h
+      go (some e) h k = h
+
+  pub called-length : (c : Lent L) (a : Config (L .Phase)) (bs : List ℕ) → Bytes bs → Counts c a → length (called L c bs .after .1) ≡ length (c .1)
+  called-length c a bs y r = rw (r .stands .known, le-leb (L .size) (length (c .1)) (r .stands .room)) (feed-length c a bs y r)
 
   -- the same of at least a byte, where `open` holds anything at first
-  follows-from : (c : Lent L) (a : Config (L .Phase)) (bs : List ℕ) → 0 < length bs → Bytes bs → Stands c a → Follows Counts (called L c bs) (feed (step (L .cut)) a bs)
+  follows-from : (c : Lent L) (a : Config (L .Phase)) (bs : List ℕ) → 0 < length bs → Bytes bs → Stands c a → Follows Counts (called L c bs) (feed (step (L .onByte)) a bs)
   follows-from c a [] h y r = absurd (omega arith)
   follows-from c a (b ∷ bs) h y r =
       rw (r .known, le-leb (L .size) (length (c .1)) (r .room))
-      (feed-from (stepOn L) view (step (L .cut)) Counts (λ _. refl) view-some (λ c a b y r. alike c a b y (r .stands)) c a b bs y (alike c a b (y 0) r))
+      (feed-from (stepOn L) view (step (L .onByte)) Counts (λ _. refl) view-some (λ c a b y r. alike c a b y (r .stands)) c a b bs y (alike c a b (y 0) r))
 
   -- and of the events themselves, as they are before they are told
-  follows-untold : (c : Lent L) (a : Config (L .Phase)) (bs : List ℕ) → Bytes bs → Counts c a → Follows Counts (callOn L c bs) (feed (step (L .cut)) a bs)
+  follows-untold : (c : Lent L) (a : Config (L .Phase)) (bs : List ℕ) → Bytes bs → Counts c a → Follows Counts (callOn L c bs) (feed (step (L .onByte)) a bs)
   follows-untold c a bs y r =
       rw (r .stands .known, le-leb (L .size) (length (c .1)) (r .stands .room))
-      (feed-follows (stepOn L) (λ _ o. o) (step (L .cut)) Counts (λ _. refl) (λ _ e. (e, refl))
-      (λ c a b y r. (ap (λ (p : L .Phase). eventOf (L .cut p b .1)) (r .stands .phase), alike c a b y (r .stands) .1)) c a bs y r)
+      (feed-follows (stepOn L) (λ _ o. o) (step (L .onByte)) Counts (λ _. refl) (λ _ e. (e, refl))
+      (λ c a b y r. (ap (λ (p : L .Phase). eventOf (L .onByte p b .1)) (r .stands .phase), alike c a b y (r .stands) .1)) c a bs y r)
 
   -- a call that gives a message leaves nothing open
-  closes : (p : L .Phase) (n : ℕ) (bs : List ℕ) (m : L .Message) → Bytes bs → Good p → feed (step (L .cut)) (at p n) bs .event ≡ some (message m)
-      → feed (step (L .cut)) (at p n) bs .after .phase ≡ L .hunting
+  closes : (p : L .Phase) (n : ℕ) (bs : List ℕ) (m : L .Message) → Bytes bs → Good p → feed (step (L .onByte)) (at p n) bs .event ≡ some (message m)
+      → feed (step (L .onByte)) (at p n) bs .after .phase ≡ L .hunting
   closes p n [] m y g e = absurd (Option·none-ne-some (message m) e)
   closes p n (b ∷ bs) m y g e =
-      go (L .cut p b .1) (accepted-is (λ m. L .cut p b .0 ≡ L .hunting) p b (y 0) g (λ m t. t .hunts))
-      (closes (L .cut p b .0) (noiseAfter (L .cut p b .1) n) bs m (λ i. y (suc i)) (good-next p b (y 0) g)) e
+      go (L .onByte p b .1) (accepted-is (λ m. L .onByte p b .0 ≡ L .hunting) p b (y 0) g (λ m t. t .hunts))
+      (closes (L .onByte p b .0) (noiseAfter (L .onByte p b .1) n) bs m (λ i. y (suc i)) (good-next p b (y 0) g)) e
     where
       next : Config (L .Phase)
-      next = at (L .cut p b .0) (noiseAfter (L .cut p b .1) n)
+      next = at (L .onByte p b .0) (noiseAfter (L .onByte p b .1) n)
 
       rest : Fed (Event (L .Message)) (Config (L .Phase))
-      rest = feed (step (L .cut)) next bs
+      rest = feed (step (L .onByte)) next bs
 
-      go : (o : Option (Segment (L .Message))) → Accepts (λ m. L .cut p b .0 ≡ L .hunting) o
+      go : (o : Option (Segment (L .Message))) → Accepts (λ m. L .onByte p b .0 ≡ L .hunting) o
           → (rest .event ≡ some (message m) → rest .after .phase ≡ L .hunting)
           → stop next (eventOf o) rest .event ≡ some (message m) → stop next (eventOf o) rest .after .phase ≡ L .hunting
       go none a ih e = ih e
       go (some (noise bs)) a ih e = ih e
-      go (some (refused k bs)) a ih e = absurd (let z : _≡_ {A = ℕ} 0 1 = cc in omega arith)
-      go (some (accepted k)) a ih e = a
+      go (some (refusedFrame k bs)) a ih e = absurd (let z : _≡_ {A = ℕ} 0 1 = cc in omega arith)
+      go (some (acceptedFrame k)) a ih e = a
 
-  pub last-closed : (bs : List ℕ) (m : L .Message) → Bytes bs → feed (step (L .cut)) (at (L .hunting) 0) bs .event ≡ some (message m)
-      → L .held (feed (step (L .cut)) (at (L .hunting) 0) bs .after .phase) ≡ []
+  pub last-closed : (bs : List ℕ) (m : L .Message) → Bytes bs → feed (step (L .onByte)) (at (L .hunting) 0) bs .event ≡ some (message m)
+      → L .held (feed (step (L .onByte)) (at (L .hunting) 0) bs .after .phase) ≡ []
   last-closed bs m y e = ap (L .held) (closes (L .hunting) 0 bs m y (laws .reached .good-first) e) ∙ laws .reached .held-first
 
-  counts-fresh : (store : List ℕ) → L .size ≤ length store → Counts (L .fresh, store) (at (L .hunting) 0)
+  pub counts-fresh : (store : List ℕ) → L .size ≤ length store → Counts (L .fresh, store) (at (L .hunting) 0)
   counts-fresh store room = counts-of (L .hunting) 0 (L .fresh) store (laws .fresh-first) (laws .reached .good-first) (rw (laws .reached .gathered-first)) room
 
   -- a call with a fresh state is a call by the rules, also as its caller has it
   module _ (store bs : List ℕ) (y : Bytes bs) (room : L .size ≤ length store) where
-    pub fresh-follows : (callOn L (L .fresh, store) bs .event ≡ feed (step (L .cut)) (at (L .hunting) 0) bs .event)
-        × (callOn L (L .fresh, store) bs .used ≡ feed (step (L .cut)) (at (L .hunting) 0) bs .used)
-        × (L .noise (callOn L (L .fresh, store) bs .after .0) ≡ feed (step (L .cut)) (at (L .hunting) 0) bs .after .noise)
+    pub fresh-follows : (callOn L (L .fresh, store) bs .event ≡ feed (step (L .onByte)) (at (L .hunting) 0) bs .event)
+        × (callOn L (L .fresh, store) bs .used ≡ feed (step (L .onByte)) (at (L .hunting) 0) bs .used)
+        × (L .noise (callOn L (L .fresh, store) bs .after .0) ≡ feed (step (L .onByte)) (at (L .hunting) 0) bs .after .noise)
     fresh-follows =
         let f = follows-untold (L .fresh, store) (at (L .hunting) 0) bs y (counts-fresh store room) in
         (f .event, f .used, f .after .stands .noise)
 
-    pub fresh-called : called L (L .fresh, store) bs .event ≡ feed (step (L .cut)) (at (L .hunting) 0) bs .event
+    pub fresh-called : called L (L .fresh, store) bs .event ≡ feed (step (L .onByte)) (at (L .hunting) 0) bs .event
     fresh-called = follows (L .fresh, store) (at (L .hunting) 0) bs y (counts-fresh store room) .event
 
   -- a stream in pieces, as a caller with a fresh state drives it, is the uncut stream by the rules
   pub driven : (pieces : List (List ℕ)) (store : List ℕ) → Bytes (join pieces) → L .size ≤ length store
-      → (drive (called L) (L .fresh, store) pieces .0 ≡ events (step (L .cut)) (at (L .hunting) 0) (join pieces))
-      × Counts (drive (called L) (L .fresh, store) pieces .1) (last (step (L .cut)) (at (L .hunting) 0) (join pieces))
-  driven pieces store y room = cutting (called L) (step (L .cut)) Counts follows (L .fresh, store) (at (L .hunting) 0) pieces y (counts-fresh store room)
+      → (drive (called L) (L .fresh, store) pieces .0 ≡ events (step (L .onByte)) (at (L .hunting) 0) (join pieces))
+      × Counts (drive (called L) (L .fresh, store) pieces .1) (last (step (L .onByte)) (at (L .hunting) 0) (join pieces))
+  driven pieces store y room = cutting (called L) (step (L .onByte)) Counts follows (L .fresh, store) (at (L .hunting) 0) pieces y (counts-fresh store room)
 
   pub cut-anywhere : CutAnywhere L
   cut-anywhere pieces store y room =
       let r = driven pieces store y room in
       record {
-        hears = r .0 ∙ heard-events (L .cut) (at (L .hunting) 0) (join pieces);
-        noise = r .1 .stands .noise ∙ noise-last (L .cut) (at (L .hunting) 0) (join pieces) (omega arith) ∙ rw zero-add;
-        «open» = r .1 .«open» ∙ ap (λ (p : L .Phase). length (L .held p)) (phase-last (L .cut) (at (L .hunting) 0) (join pieces));
+        hears = r .0 ∙ heard-events (L .onByte) (at (L .hunting) 0) (join pieces);
+        noise = r .1 .stands .noise ∙ noise-last (L .onByte) (at (L .hunting) 0) (join pieces) (omega arith) ∙ rw zero-add;
+        «open» = r .1 .«open» ∙ ap (λ (p : L .Phase). length (L .held p)) (phase-last (L .onByte) (at (L .hunting) 0) (join pieces));
       }
 
   pub reads-back : ReadsBack L
@@ -264,17 +302,17 @@ module _ (L : Link) (laws : Lawful L) where
             phase = p;
             known = k;
             noise = refl;
-            next = λ b y. laws .state-leaves s store (L .cut (L .hunting) b .0) (L .cut (L .hunting) b .1) p;
+            next = λ b y. laws .state-leaves s store (L .onByte (L .hunting) b .0) (L .onByte (L .hunting) b .1) p;
             store = rw (laws .reached .gathered-first);
             room = room;
             good = laws .reached .good-first;
           }
 
-      f : Follows Counts (called L (s, store) (L .frame m ++ rest)) (feed (step (L .cut)) (at (L .hunting) (L .noise s)) (L .frame m ++ rest))
+      f : Follows Counts (called L (s, store) (L .frame m ++ rest)) (feed (step (L .onByte)) (at (L .hunting) (L .noise s)) (L .frame m ++ rest))
       f =
           follows-from (s, store) (at (L .hunting) (L .noise s)) (L .frame m ++ rest) (omega (arith, laws .frame-filled m, length-append (L .frame m) rest))
           (bytes-append (L .frame m) rest (laws .frame-bytes m t o) y) stands
 
-      e : feed (step (L .cut)) (at (L .hunting) (L .noise s)) (L .frame m ++ rest)
+      e : feed (step (L .onByte)) (at (L .hunting) (L .noise s)) (L .frame m ++ rest)
           ≡ record { event = some (message m); used = length (L .frame m); after = at (L .hunting) (L .noise s) }
       e = laws .reads-frame m rest (L .noise s) t o

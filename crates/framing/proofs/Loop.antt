@@ -10,7 +10,7 @@ use lib.Seq.{drop-length}
 use Rattle.runs.proofs.Bytes.{drop-next}
 use Rattle.framing.specs.Receiver.{later, stop, feed}
 use Rattle.framing.specs.Segment.{Event, message, refusal}
-use Rattle.framing.specs.Link.{Link, Lent, Told, isEvent, stepOn, told, answered}
+use Rattle.framing.specs.Link.{Link, Lent, Told, isEvent, stepOn, told, reported}
 use Rattle.framing.specs.Passing.{Passed}
 use Rattle.framing.proofs.Feed.{later-zero, later-later}
 
@@ -44,14 +44,14 @@ module _ (L : Link) where
     ends e h = turn ∙ rw h
 
     -- the byte that makes an event ends the call
-    pub passed-event : isEvent v ≡ true → (v, i + 1, d) ≡ answered L (feed (stepOn L) c₀ piece)
+    pub passed-event : isEvent v ≡ true → (v, i + 1, d) ≡ reported L (feed (stepOn L) c₀ piece)
     passed-event e =
         let w = told-some (stepOn L c (getD piece i 0) .1) (ap isEvent (sym tells) ∙ e) in
         let tells-is : v ≡ told L (some (w .0)) = tells ∙ ap (told L) (w .1) in
-        (λ j. (tells-is j, i + 1, leaves j)) ∙ sym (ap (answered L) (ends (w .0) (w .1)))
+        (λ j. (tells-is j, i + 1, leaves j)) ∙ sym (ap (reported L) (ends (w .0) (w .1)))
 
   -- and so does the end of the piece
-  pub passed-all : (c₀ c : Lent L) (piece : List ℕ) (i : ℕ) → i ≡ length piece → Passed L c₀ piece c i → (told L none, i, c) ≡ answered L (feed (stepOn L) c₀ piece)
+  pub passed-all : (c₀ c : Lent L) (piece : List ℕ) (i : ℕ) → i ≡ length piece → Passed L c₀ piece c i → (told L none, i, c) ≡ reported L (feed (stepOn L) c₀ piece)
   passed-all c₀ c piece i h passed =
       let ends : feed (stepOn L) c₀ piece ≡ record { event = none; used = i; after = c } = passed ∙ rw (h, drop-length, add-zero) in
-      sym (ap (answered L) ends)
+      sym (ap (reported L) ends)

@@ -10,9 +10,13 @@ use lib.Dec.{eqb, ltb}
 use borrow.Author.Tests.{eq-eqb, ne-eqb, eqb-true, leb-true}
 use Rattle.runs.proofs.Cases.{by-eqb, by-ltb, and-both}
 use Rattle.framing.specs.Segment.{Segment, noiseAfter}
-use Rattle.framing.specs.State.{knownState, openAfter, stateAfter, stateOf, afterNoise}
+use Rattle.framing.specs.State.{knownState, openAfter, stateAfter, afterNoise}
 use Rattle.framing.specs.declared.State.{State}
 use Rattle.framing.proofs.Segments.{wireOpt}
+
+-- the state of a phase and a noise count, with the mode, the gathered bytes and the held wire bytes of each phase
+abbrev pub stateOf : {P : Type 0} → (P → ℕ) → (P → List ℕ) → (P → List ℕ) → P → ℕ → State
+stateOf modeOf gathered held p n = record { mode = modeOf p; count = length (gathered p); «open» = length (held p); noise = n }
 
 -- the count of held bytes goes with them, where they are fewer than 2^32
 pub open-next : {M : Type 0} (frame : M → List ℕ) (o : Option (Segment M)) (s : State) (h h′ : List ℕ) (b : ℕ) → s .«open» ≡ length h
@@ -48,11 +52,11 @@ known-count modes hunting size s h =
     (λ _ e. let z = eqb-true (s .count) 0 e in omega arith) (λ _ e. leb-true (s .count) size e) (and-both (ltb (s .mode) modes) _ h .1)
 
 -- the count stays within the size, where no byte makes a phase gather more, and a state's phase has gathered no more than its count
-module _ {P M : Type 0} (modeOf : P → ℕ) (gathered held : P → List ℕ) (phaseOf : State → List ℕ → P) (cut : P → ℕ → P × Option (Segment M)) (size : ℕ)
+module _ {P M : Type 0} (modeOf : P → ℕ) (gathered held : P → List ℕ) (phaseOf : State → List ℕ → P) (onByte : P → ℕ → P × Option (Segment M)) (size : ℕ)
     (within : (s : State) (store : List ℕ) → length (gathered (phaseOf s store)) ≤ s .count)
-    (next : (p : P) (b : ℕ) → length (gathered p) ≤ size → length (gathered (cut p b .0)) ≤ size) where
+    (next : (p : P) (b : ℕ) → length (gathered p) ≤ size → length (gathered (onByte p b .0)) ≤ size) where
   pub count-within : (s after : State) (store : List ℕ) (b : ℕ) → s .count ≤ size
-      → after ≡ stateAfter modeOf gathered held s (cut (phaseOf s store) b .0) (cut (phaseOf s store) b .1) → after .count ≤ size
+      → after ≡ stateAfter modeOf gathered held s (onByte (phaseOf s store) b .0) (onByte (phaseOf s store) b .1) → after .count ≤ size
   count-within s after store b h e = rw e (next (phaseOf s store) b (omega (arith, within s store)))
 
 -- a count that goes round is the same, whether what is added goes round first or not

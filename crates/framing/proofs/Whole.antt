@@ -13,13 +13,13 @@ use Rattle.runs.specs.Runs.{Bytes}
 use Rattle.runs.proofs.Cases.{by-test, by-leb, and-both}
 use Rattle.framing.specs.Answer.{done}
 use Rattle.framing.specs.Receiver.{Fed, feed, last}
-use Rattle.framing.specs.Segment.{Segment, noise, refused, accepted, Event, message, refusal, Config, step, wires, heard, noiseOf}
+use Rattle.framing.specs.Segment.{Segment, noise, refusedFrame, acceptedFrame, Event, message, refusal, wires, heard, noiseOf}
 use Rattle.framing.specs.Link.{Link, Lent, told, heardIn}
 use Rattle.framing.specs.Claims.{segments, openAt}
 use Rattle.framing.specs.Whole.{settle, exactly, readOn, OnlyFrames, FramesRead}
 use Rattle.framing.proofs.Feed.{events-feed, last-feed}
-use Rattle.framing.proofs.Segments.{AllAccept, heard-events, noise-last, phase-last}
-use Rattle.framing.proofs.Lawful.{Lawful, at, accounted, all-sendable, last-closed, fresh-follows, fresh-called}
+use Rattle.framing.proofs.Segments.{Config, step, AllAccept, heard-events, noise-last, phase-last}
+use Rattle.framing.proofs.Lawful.{Lawful, at, accounted, Writable, all-writable, last-closed, fresh-follows, fresh-called}
 
 none-left : {A : Type 0} (xs : List A) → length xs ≡ 0 → xs ≡ []
 none-left [] h = refl
@@ -35,8 +35,8 @@ module _ {M : Type 0} (frame : M → List ℕ) where
   silent (noise bs ∷ ss) h n =
       let e : bs ≡ [] = none-left bs (omega arith) in
       rw e (silent ss h (omega arith))
-  silent (refused k bs ∷ ss) h n = differ (cc)
-  silent (accepted m ∷ ss) h n = differ (cc)
+  silent (refusedFrame k bs ∷ ss) h n = differ (cc)
+  silent (acceptedFrame m ∷ ss) h n = differ (cc)
 
   -- one message was heard and nothing is noise: the bytes are its frame
   alone : (P : M → Type 0) (ss : List (Segment M)) (m : M) → heard ss ≡ message m ∷ [] → noiseOf ss ≡ 0 → AllAccept P ss
@@ -45,8 +45,8 @@ module _ {M : Type 0} (frame : M → List ℕ) where
   alone P (noise bs ∷ ss) m h n a =
       let e : bs ≡ [] = none-left bs (omega arith) in
       rw e (alone P ss m h (omega arith) (a .1))
-  alone P (refused k bs ∷ ss) m h n a = differ (cc)
-  alone P (accepted k ∷ ss) m h n a =
+  alone P (refusedFrame k bs ∷ ss) m h n a = differ (cc)
+  alone P (acceptedFrame k ∷ ss) m h n a =
       let e : k ≡ m = cc in
       let s : heard ss ≡ [] = cc in
       (subst P e (a .0), rw (silent ss s n, e) (append-nil (frame m)))
@@ -54,35 +54,36 @@ module _ {M : Type 0} (frame : M → List ℕ) where
   noise-within : (ss : List (Segment M)) → noiseOf ss ≤ length (wires frame ss)
   noise-within [] = omega arith
   noise-within (noise bs ∷ ss) = let h = noise-within ss in simp length-append (omega arith)
-  noise-within (refused n bs ∷ ss) = let h = noise-within ss in simp length-append (omega arith)
-  noise-within (accepted m ∷ ss) = let h = noise-within ss in simp length-append (omega arith)
+  noise-within (refusedFrame n bs ∷ ss) = let h = noise-within ss in simp length-append (omega arith)
+  noise-within (acceptedFrame m ∷ ss) = let h = noise-within ss in simp length-append (omega arith)
 
 module _ (L : Link) (laws : Lawful L) where
   abbrev rules : List ℕ → Fed (Event (L .Message)) (Config (L .Phase))
-  rules bs = feed (step (L .cut)) (at (L .hunting) 0) bs
+  rules bs = feed (step (L .onByte)) (at (L .hunting) 0) bs
 
   -- a call that used the whole run, with no noise, and gave a message
   module _ (bs : List ℕ) (m : L .Message) (y : Bytes bs) (event : rules bs .event ≡ some (message m)) (used : rules bs .used ≡ length bs)
       (quiet : rules bs .after .noise ≡ 0) (short : length bs < 2 ^ 32) where
     one : heard (segments L bs) ≡ message m ∷ []
-    one = sym (heard-events (L .cut) (at (L .hunting) 0) bs) ∙ events-feed (step (L .cut)) (at (L .hunting) 0) bs ∙ rw (event, used, drop-length bs)
+    one = sym (heard-events (L .onByte) (at (L .hunting) 0) bs) ∙ events-feed (step (L .onByte)) (at (L .hunting) 0) bs ∙ rw (event, used, drop-length bs)
 
-    ends : last (step (L .cut)) (at (L .hunting) 0) bs ≡ rules bs .after
-    ends = last-feed (step (L .cut)) (at (L .hunting) 0) bs ∙ rw (used, drop-length bs)
+    ends : last (step (L .onByte)) (at (L .hunting) 0) bs ≡ rules bs .after
+    ends = last-feed (step (L .onByte)) (at (L .hunting) 0) bs ∙ rw (used, drop-length bs)
 
     no-noise : noiseOf (segments L bs) ≡ 0
     no-noise =
-        let rounds = noise-last (L .cut) (at (L .hunting) 0) bs (omega arith) in
+        let rounds = noise-last (L .onByte) (at (L .hunting) 0) bs (omega arith) in
         let within = noise-within (L .frame) (segments L bs) in
         let clear = ap (λ (c : Config (L .Phase)). c .noise) ends ∙ quiet in
         let all = ap length (accounted L laws bs y) in
         omega (arith, length-append (wires (L .frame) (segments L bs)) (openAt L bs))
 
-    exact : (L .ok m ≡ true) × (bs ≡ L .frame m)
+    exact : (L .ok m ≡ true) × L .Typed m × (bs ≡ L .frame m)
     exact =
-        let p = alone (L .frame) (λ m. L .ok m ≡ true) (segments L bs) m one no-noise (all-sendable L laws bs y) in
-        let closed : openAt L bs ≡ [] = ap (L .held) (sym (phase-last (L .cut) (at (L .hunting) 0) bs) ∙ ap (λ (c : Config (L .Phase)). c .phase) ends) ∙ last-closed L laws bs m y event in
-        (p .0, sym (accounted L laws bs y) ∙ rw (p .1, closed) (append-nil (L .frame m)))
+        let p = alone (L .frame) (Writable L laws) (segments L bs) m one no-noise (all-writable L laws bs y) in
+        let closed : openAt L bs ≡ [] = ap (L .held) (sym (phase-last (L .onByte) (at (L .hunting) 0) bs) ∙ ap (λ (c : Config (L .Phase)). c .phase) ends) ∙ last-closed L laws bs m y event in
+        let framed : bs ≡ L .frame m = sym (accounted L laws bs y) ∙ rw (p .1, closed) (append-nil (L .frame m)) in
+        (p .0 .0, p .0 .1 (subst Bytes framed y), framed)
 
   -- the store that was lent does not matter
   by-rules : (run store : List ℕ) → Bytes run → L .size ≤ length store
@@ -122,13 +123,13 @@ module _ (L : Link) (laws : Lawful L) where
       let s = and-both (ltb (length run) (2 ^ 32)) _ t in
       let l = and-both (eqb (rules run .used) (length run)) _ (s .1) in
       let x = exact run m y e (eqb-true _ _ (l .0)) (eqb-true _ _ (l .1)) (ltb-true _ _ (s .0)) in
-      (m, record { sendable = x .0; framed = x .1; told = n; kept = ap (L .messageOf (readOn L run store .1)) n ∙ kept run store m y room e })
+      (m, record { sendable = x .0; typed = x .1; framed = x .2; told = n; kept = ap (L .messageOf (readOn L run store .1)) n ∙ kept run store m y room e })
 
   pub frames-read : ((m : L .Message) → L .ok m ≡ true → length (L .frame m) < 2 ^ 32) → FramesRead L
   frames-read short m store t o room =
       let y = laws .frame-bytes m t o in (
         by-rules (L .frame m) store y room ∙ rw (read, lt-ltb (length (L .frame m)) (2 ^ 32) (short m o), eq-eqb (length (L .frame m)) (length (L .frame m)) refl),
-        record { sendable = o; framed = refl; told = refl; kept = kept (L .frame m) store m y room (ap (λ (f : Fed (Event (L .Message)) (Config (L .Phase))). f .event) read) },
+        record { sendable = o; typed = t; framed = refl; told = refl; kept = kept (L .frame m) store m y room (ap (λ (f : Fed (Event (L .Message)) (Config (L .Phase))). f .event) read) },
       )
     where
       read : rules (L .frame m) ≡ record { event = some (message m); used = length (L .frame m); after = at (L .hunting) 0 }

@@ -1,4 +1,4 @@
--- What is claimed of every link. Each link's proofs/Theorems.antt proves these for its own.
+-- What is claimed of every link. The crate `claims` has these for all four.
 use Prim.Native.Nat.{ℕ, _%_, _^_, _≤_}
 use mathlib.Core.Path.{_≡_}
 use mathlib.Core.Logic.{_↔_}
@@ -9,8 +9,8 @@ use lib.ListN.{length, take}
 use Rattle.runs.specs.Runs.{Bytes, over, Begins}
 use Rattle.framing.specs.Answer.{done}
 use Rattle.framing.specs.Receiver.{Fed, events, last, drive, join}
-use Rattle.framing.specs.Segment.{Segment, accepted, Event, message, heard, noiseOf, wires}
-use Rattle.framing.specs.Writer.{Call, kept, wire}
+use Rattle.framing.specs.Segment.{Segment, acceptedFrame, Event, message, heard, noiseOf, wires}
+use Rattle.framing.specs.Writer.{Call, frames, kept, wire}
 use Rattle.framing.specs.Link.{Link, writeOn, called}
 
 -- every element of a list has a property
@@ -21,10 +21,10 @@ AllOf P (x ∷ xs) = P x × AllOf P xs
 module _ (L : Link) where
   -- the segments of a stream by the rules, and what is open at its end
   abbrev pub segments : List ℕ → List (Segment (L .Message))
-  segments bs = events (L .cut) (L .hunting) bs
+  segments bs = events (L .onByte) (L .hunting) bs
 
   abbrev pub openAt : List ℕ → List ℕ
-  openAt bs = L .held (last (L .cut) (L .hunting) bs)
+  openAt bs = L .held (last (L .onByte) (L .hunting) bs)
 
   -- writes the frame: in memory that holds it, a message that may be sent leaves exactly its frame at the start, and nothing after it is changed
   abbrev pub WritesFrame : Type 0
@@ -49,8 +49,9 @@ module _ (L : Link) where
 
   abbrev pub ReadsBack : Type 0
   ReadsBack =
-      (m : L .Message) (memory rest : List ℕ) (s : L .State) (store : List ℕ) → L .Typed m → L .ok m ≡ true → length (L .frame m) ≤ length memory
-      → Bytes rest → L .known s ≡ true → L .phaseOf s store ≡ L .hunting → L .size ≤ length store → ReadBack m memory rest s store
+      (m : L .Message) (memory rest : List ℕ) (s : L .State) (store : List ℕ)
+      → L .Typed m → L .ok m ≡ true → length (L .frame m) ≤ length memory → Bytes rest
+      → L .known s ≡ true → L .phaseOf s store ≡ L .hunting → L .size ≤ length store → ReadBack m memory rest s store
 
   -- calls read back: of the bytes that any calls of the writer leave, refused ones and none at all included, cut anywhere, a fresh receiver, its
   -- store handed back untouched, hands out exactly the kept messages, in order; nothing is noise, and it hunts with nothing open
@@ -66,11 +67,13 @@ module _ (L : Link) where
       (calls : List (Call (L .Message))) (pieces : List (List ℕ)) (store : List ℕ) → AllOf (λ c. L .Typed (c .message)) calls
       → join pieces ≡ wire (writeOn L) calls → L .size ≤ length store → CallsBack calls pieces store
 
-  -- canonical: a message is accepted only where the stream holds exactly its frame, and only one that may be sent
+  -- canonical: a message is accepted only where the stream holds exactly its frame, and only one that may be sent and whose numbers fit their
+  -- types, so that it can be written again
   abbrev pub Canonical : Type 0
   Canonical =
-      (bs : List ℕ) → Bytes bs → (before after : List (Segment (L .Message))) (m : L .Message) → segments bs ≡ before ++ (accepted m ∷ after)
-      → (L .ok m ≡ true) × (bs ≡ wires (L .frame) before ++ L .frame m ++ wires (L .frame) after ++ openAt bs)
+      (bs : List ℕ) → Bytes bs → (before after : List (Segment (L .Message))) (m : L .Message)
+      → segments bs ≡ before ++ (acceptedFrame m ∷ after)
+      → (L .ok m ≡ true) × L .Typed m × (bs ≡ wires (L .frame) before ++ L .frame m ++ wires (L .frame) after ++ openAt bs)
 
   -- cut anywhere: a fresh receiver, its store handed back untouched, hands out the events, the noise and the open count of the uncut stream,
   -- whatever the store held at first
@@ -86,10 +89,11 @@ module _ (L : Link) where
   abbrev pub Accounted : Type 0
   Accounted = (bs : List ℕ) → Bytes bs → wires (L .frame) (segments bs) ++ openAt bs ≡ bs
 
-  -- calls told: of any two lists of calls the bytes are equal exactly when the kept messages are, and one's begin the other's exactly when its
-  -- kept messages do
-  abbrev pub CallsTold : Type 0
-  CallsTold =
-      (xs ys : List (Call (L .Message))) → AllOf (λ c. L .Typed (c .message)) xs → AllOf (λ c. L .Typed (c .message)) ys
-      → ((wire (writeOn L) xs ≡ wire (writeOn L) ys) ↔ (kept (writeOn L) xs ≡ kept (writeOn L) ys))
-      × (Begins (wire (writeOn L) xs) (wire (writeOn L) ys) ↔ Begins (kept (writeOn L) xs) (kept (writeOn L) ys))
+  -- calls told: the bytes of any list of calls are the frames of the kept messages end to end; of any two lists the bytes are equal exactly when
+  -- the kept messages are, and one's begin the other's exactly when its kept messages do
+  pub record CallsTold : Type 0 where
+    pub framed : (cs : List (Call (L .Message))) → wire (writeOn L) cs ≡ frames (L .frame) (kept (writeOn L) cs)
+    pub equal : (xs ys : List (Call (L .Message))) → AllOf (λ c. L .Typed (c .message)) xs → AllOf (λ c. L .Typed (c .message)) ys
+        → (wire (writeOn L) xs ≡ wire (writeOn L) ys) ↔ (kept (writeOn L) xs ≡ kept (writeOn L) ys)
+    pub begins : (xs ys : List (Call (L .Message))) → AllOf (λ c. L .Typed (c .message)) xs → AllOf (λ c. L .Typed (c .message)) ys
+        → Begins (wire (writeOn L) xs) (wire (writeOn L) ys) ↔ Begins (kept (writeOn L) xs) (kept (writeOn L) ys)

@@ -21,7 +21,7 @@ pub record Link : Type 1 where
   -- the rules: the phases, the first one; the phase after a byte and the segment that it closes; the bytes gathered, the wire bytes held
   pub Phase : Type 0
   pub hunting : Phase
-  pub cut : Phase → ℕ → Phase × Option (Segment Message)
+  pub onByte : Phase → ℕ → Phase × Option (Segment Message)
   pub gathered : Phase → List ℕ
   pub held : Phase → List ℕ
   -- the least store, the states, the fresh one, those that do not give 12, their counts of noise and of open wire bytes
@@ -43,13 +43,13 @@ pub record Link : Type 1 where
 -- what a receiver answers: nothing, the numbers of a message, or the number of a refusal
 pub data Told (N : Type 0) : Type 0 where
   nothing : Told N
-  numbers : N → Told N
-  number : ℕ → Told N
+  accepted : N → Told N
+  refused : ℕ → Told N
 
 abbrev pub isEvent : {N : Type 0} → Told N → Bool
 isEvent nothing = false
-isEvent (numbers v) = true
-isEvent (number n) = true
+isEvent (accepted v) = true
+isEvent (refused n) = true
 
 -- the data of a message in a store: n bytes from place k on, or nothing where they do not lie in the store
 abbrev pub dataAt : ℕ → ℕ → List ℕ → List ℕ
@@ -68,7 +68,7 @@ module _ (L : Link) where
   abbrev pub stepOn : Lent → ℕ → Lent × Option (Event (L .Message))
   stepOn c b =
       let p = L .phaseOf (c .0) (c .1) in
-      ((L .stateAfter (c .0) (L .cut p b .0) (L .cut p b .1), over (L .front p b) (c .1)), eventOf (L .cut p b .1))
+      ((L .stateAfter (c .0) (L .onByte p b .0) (L .onByte p b .1), over (L .front p b) (c .1)), eventOf (L .onByte p b .1))
 
   -- a refusal that uses no byte and changes nothing
   abbrev pub refuses : ℕ → Lent → Fed (Event (L .Message)) Lent
@@ -82,23 +82,23 @@ module _ (L : Link) where
   -- an event as it is told, and as the caller has it, the data read in the store after the call
   abbrev pub told : Option (Event (L .Message)) → Told (L .Numbers)
   told none = nothing
-  told (some (message m)) = numbers (L .numbersOf m)
-  told (some (refusal n)) = number n
+  told (some (message m)) = accepted (L .numbersOf m)
+  told (some (refusal n)) = refused n
 
   abbrev pub heardIn : List ℕ → Told (L .Numbers) → Option (Event (L .Message))
   heardIn store nothing = none
-  heardIn store (numbers v) = some (message (L .messageOf store v))
-  heardIn store (number n) = some (refusal n)
+  heardIn store (accepted v) = some (message (L .messageOf store v))
+  heardIn store (refused n) = some (refusal n)
 
   -- what a call answers: what it tells, the bytes used, the state and the store after
-  abbrev pub answered : Fed (Event (L .Message)) Lent → Told (L .Numbers) × ℕ × Lent
-  answered f = (told (f .event), f .used, f .after)
+  abbrev pub reported : Fed (Event (L .Message)) Lent → Told (L .Numbers) × ℕ × Lent
+  reported f = (told (f .event), f .used, f .after)
 
-  abbrev pub answer : Lent → List ℕ → Told (L .Numbers) × ℕ × Lent
-  answer c piece = answered (callOn c piece)
+  abbrev pub receives : Lent → List ℕ → Told (L .Numbers) × ℕ × Lent
+  receives c piece = reported (callOn c piece)
 
   -- a call as its caller has it, from the answer alone
   abbrev pub called : Lent → List ℕ → Fed (Event (L .Message)) Lent
   called c piece =
-      let a = answer c piece in
+      let a = receives c piece in
       record { event = heardIn (a .2 .1) (a .0); used = a .1; after = a .2 }

@@ -7,8 +7,8 @@ use lib.ListN.{length}
 -- noise; a refused frame with its number; an accepted frame. Every byte of a stream belongs to one of these or to what is open at the end
 pub data Segment (M : Type 0) : Type 0 where
   noise : List ℕ → Segment M
-  refused : ℕ → List ℕ → Segment M
-  accepted : M → Segment M
+  refusedFrame : ℕ → List ℕ → Segment M
+  acceptedFrame : M → Segment M
 
 -- what a caller hears of the stream: a message or a refusal
 pub data Event (M : Type 0) : Type 0 where
@@ -20,47 +20,37 @@ module _ {M : Type 0} where
   abbrev pub eventOf : Option (Segment M) → Option (Event M)
   eventOf none = none
   eventOf (some (noise bs)) = none
-  eventOf (some (refused n bs)) = some (refusal n)
-  eventOf (some (accepted m)) = some (message m)
+  eventOf (some (refusedFrame n bs)) = some (refusal n)
+  eventOf (some (acceptedFrame m)) = some (message m)
 
   -- the noise count is taken modulo 2^32
   abbrev pub noiseAfter : Option (Segment M) → ℕ → ℕ
   noiseAfter none n = n
   noiseAfter (some (noise bs)) n = (n + length bs) % 2 ^ 32
-  noiseAfter (some (refused k bs)) n = n
-  noiseAfter (some (accepted m)) n = n
+  noiseAfter (some (refusedFrame k bs)) n = n
+  noiseAfter (some (acceptedFrame m)) n = n
 
   -- the events of a list of segments, in order
   abbrev pub heard : List (Segment M) → List (Event M)
   heard [] = []
   heard (noise bs ∷ ss) = heard ss
-  heard (refused n bs ∷ ss) = refusal n ∷ heard ss
-  heard (accepted m ∷ ss) = message m ∷ heard ss
+  heard (refusedFrame n bs ∷ ss) = refusal n ∷ heard ss
+  heard (acceptedFrame m ∷ ss) = message m ∷ heard ss
 
   -- how many of their bytes are noise
   abbrev pub noiseOf : List (Segment M) → ℕ
   noiseOf [] = 0
   noiseOf (noise bs ∷ ss) = length bs + noiseOf ss
-  noiseOf (refused n bs ∷ ss) = noiseOf ss
-  noiseOf (accepted m ∷ ss) = noiseOf ss
+  noiseOf (refusedFrame n bs ∷ ss) = noiseOf ss
+  noiseOf (acceptedFrame m ∷ ss) = noiseOf ss
 
 -- the wire bytes of a segment: an accepted message stands in the stream as its frame
 module _ {M : Type 0} (frame : M → List ℕ) where
   abbrev pub wireOf : Segment M → List ℕ
   wireOf (noise bs) = bs
-  wireOf (refused n bs) = bs
-  wireOf (accepted m) = frame m
+  wireOf (refusedFrame n bs) = bs
+  wireOf (acceptedFrame m) = frame m
 
   abbrev pub wires : List (Segment M) → List ℕ
   wires [] = []
   wires (s ∷ ss) = wireOf s ++ wires ss
-
--- a phase, and the noise bytes so far
-pub record Config (P : Type 0) : Type 0 where
-  pub phase : P
-  pub noise : ℕ
-
--- a link's rules as a receiver
-abbrev pub step : {P M : Type 0} → (P → ℕ → P × Option (Segment M)) → Config P → ℕ → Config P × Option (Event M)
-step cut c b =
-    (record { phase = cut (c .phase) b .0; noise = noiseAfter (cut (c .phase) b .1) (c .noise) }, eventOf (cut (c .phase) b .1))

@@ -39,7 +39,3 @@ module _ {P : Type 0} (modeOf : P → ℕ) (gathered held : P → List ℕ) wher
   abbrev pub stateAfter : {M : Type 0} → State → P → Option (Segment M) → State
   stateAfter s p o =
       record { mode = modeOf p; count = length (gathered p); «open» = openAfter o s (length (held p)); noise = noiseAfter o (s .noise) }
-
-  -- the state of a phase and a noise count
-  abbrev pub stateOf : P → ℕ → State
-  stateOf p n = record { mode = modeOf p; count = length (gathered p); «open» = length (held p); noise = n }

@@ -14,6 +14,11 @@ pub record Call (M : Type 0) : Type 0 where
   pub message : M
   pub memory : List ℕ
 
+-- the frames of a list of messages, end to end
+abbrev pub frames : {M : Type 0} → (M → List ℕ) → List M → List ℕ
+frames frame [] = []
+frames frame (m ∷ ms) = frame m ++ frames frame ms
+
 -- a call that is not refused adds its message ..
 abbrev pub keeps : {M : Type 0} → M → Outcome ℕ → List M → List M
 keeps m (done n) ms = m ∷ ms

@@ -17,7 +17,7 @@ use Rattle.escape.proofs.Expansion.{expansion-lawful}
 use Rattle.expansion.specs.Frame.{kindOk, ok, body, trailer, frame}
 use Rattle.expansion.specs.Frame as Frame
 use Rattle.expansion.specs.Contract.{link}
-use Rattle.gate.specs.Answering.{reply}
+use Rattle.gate.specs.Responder.{reply}
 use Rattle.gate.specs.Claims.{Sendable}
 
 -- a message that may be sent is answered with its length or with 2
@@ -29,16 +29,16 @@ never-3 m h memory = rw h (go (decLe (0 + length (frame m)) (length memory)))
     go (no l) e = let f = stored-refused (frame m) memory 0 (omega arith) in let z : _≡_ {A = ℕ} 2 3 = cc in omega arith
 
 -- two marks, and at most two bytes for each of the header and the CRC
-reply-short : (head : Bool) (kind id address : ℕ) → length (frame (reply head kind id address)) ≤ 18
-reply-short head kind id address =
-    let b : List ℕ = body (reply head kind id address) in
+reply-short : (head : Bool) (id kind address : ℕ) → length (frame (reply head id kind address)) ≤ 18
+reply-short head id kind address =
+    let b : List ℕ = body (reply head id kind address) in
     let h = hide-short Escape.expansion expansion-lawful (b ++ trailer b) in
     let l = length-append b (trailer b) in
     let t : length (trailer b) ≡ 4 = simp length-bytesOf in
     simp length-append (omega arith)
 
-pub sendable : (head : Bool) (kind id address : ℕ) (m : Frame.Message) → kindOk kind 0 ≡ true → some (reply head kind id address) ≡ some m → Sendable m
-sendable head kind id address m k h =
-    let e : reply head kind id address ≡ m = cc in
-    let may : ok (reply head kind id address) ≡ true = rw k in
-    subst Sendable e (record { may = may; short = reply-short head kind id address; never3 = never-3 (reply head kind id address) may })
+pub sendable : (head : Bool) (id kind address : ℕ) (m : Frame.Message) → kindOk kind 0 ≡ true → some (reply head id kind address) ≡ some m → Sendable m
+sendable head id kind address m k h =
+    let e : reply head id kind address ≡ m = cc in
+    let may : ok (reply head id kind address) ≡ true = rw k in
+    subst Sendable e (record { may = may; short = reply-short head id kind address; never3 = never-3 (reply head id kind address) may })

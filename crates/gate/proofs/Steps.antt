@@ -37,7 +37,7 @@ module _ (e : Exchange) (P : Option ℕ → Option (ℕ × ℕ) → Exchange →
       by-test Q (known e)
       (λ _. by-test Q (eqb (e .mode) 1 && waitOver now (e .sent)) (λ t. by-again now (eqb-true (e .mode) 1 (and-both _ _ t .0))) (λ _. stays))
       (λ _. stays)
-  by-step (arrival kind id now) =
+  by-step (arrival id kind now) =
       by-test Q (known e)
       (λ _. by-test Q (eqb (e .mode) 1 && eqb id (e .id))
       (λ t. by-eqb Q kind 1 (λ _. ends) (λ _. by-eqb Q kind 2 (λ _. by-again now (eqb-true (e .mode) 1 (and-both _ _ t .0))) (λ _. stays)))

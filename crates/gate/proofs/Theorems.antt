@@ -12,7 +12,7 @@ use borrow.Author.Tests.{leb-true, le-leb, ne-eqb}
 use Rattle.runs.proofs.Cases.{by-test, by-eqb}
 use Rattle.framing.specs.Receiver.{emit}
 use Rattle.framing.specs.Segment.{Event, message, refusal}
-use Rattle.framing.specs.Link.{nothing, numbers, number, told, answer}
+use Rattle.framing.specs.Link.{nothing, accepted, refused, told, receives}
 use Rattle.framing.specs.Claims.{AllOf}
 use Rattle.expansion.specs.Frame as Frame
 use Rattle.expansion.specs.Contract.{link}
@@ -20,7 +20,7 @@ use Rattle.expansion.specs.Claims.{gatheredBefore, Stands, afterStream}
 use Rattle.expansion.proofs.Theorems.{refused-header, refused-as-sent}
 use Rattle.gate.specs.Asking.{start, freshExchange, known, since, sends, ended}
 use Rattle.gate.specs.Asking as Asking
-use Rattle.gate.specs.Answering.{Answering, Answered, reply, answers}
+use Rattle.gate.specs.Responder.{Responder, Response, reply, responds}
 use Rattle.gate.specs.Claims.{after, requests, starts, RepeatAtMost3, FourSends, IdsGoRound, OtherIdChangesNothing, WaitOverIff, Sendable, ReplySendable, CheckErrorAsGathered, CheckErrorAsSent}
 use Rattle.gate.proofs.Steps.{next, by-step, left-le, sends-left, ids}
 use Rattle.gate.proofs.Sendable.{sendable}
@@ -45,7 +45,7 @@ pub ids-go-round : IdsGoRound
 ids-go-round ss n h = ids freshExchange ss n h ∙ omega arith
 
 pub other-id-changes-nothing : OtherIdChangesNothing
-other-id-changes-nothing e kind id now h = rw (ne-eqb id (e .id) h) (go (known e) (eqb (e .mode) 1))
+other-id-changes-nothing e id kind now h = rw (ne-eqb id (e .id) h) (go (known e) (eqb (e .mode) 1))
   where
     go : (k w : Bool) → cond k (cond (w && false) (Asking.replied e kind now) (Asking.nothing, e)) (Asking.refused 12, e) ≡ (cond k Asking.nothing (Asking.refused 12), e)
     go false w = refl
@@ -59,21 +59,21 @@ wait-over-iff sent later h k =
 
 pub reply-sendable : ReplySendable
 reply-sendable head a nothing store m h = absurd (Option·none-ne-some m h)
-reply-sendable head a (numbers v) store m h =
-    by-eqb (λ (r : Answered). r .reply ≡ some m → Sendable m) (v .kind) 0 (λ _. sendable head 1 (v .id) (v .address) m refl)
+reply-sendable head a (accepted v) store m h =
+    by-eqb (λ (r : Response). r .reply ≡ some m → Sendable m) (v .kind) 0 (λ _. sendable head (v .id) 1 (v .address) m refl)
     (λ _ h. absurd (Option·none-ne-some m h)) h
-reply-sendable head a (number n) store m h =
-    by-test (λ (r : Answered). r .reply ≡ some m → Sendable m) (eqb n 8 && leb 4 (length store))
-    (λ _. sendable head 2 (getD store 0 0) (getD store 3 0) m refl) (λ _ h. absurd (Option·none-ne-some m h)) h
+reply-sendable head a (refused n) store m h =
+    by-test (λ (r : Response). r .reply ≡ some m → Sendable m) (eqb n 8 && leb 4 (length store))
+    (λ _. sendable head (getD store 0 0) 2 (getD store 3 0) m refl) (λ _ h. absurd (Option·none-ne-some m h)) h
 
-told-8 : (o : Option (Event Frame.Message)) → told link o ≡ number 8 → o ≡ some (refusal 8)
+told-8 : (o : Option (Event Frame.Message)) → told link o ≡ refused 8 → o ≡ some (refusal 8)
 told-8 none h = let z : _≡_ {A = ℕ} 0 1 = cc in absurd (omega arith)
 told-8 (some (message m)) h = let z : _≡_ {A = ℕ} 0 1 = cc in absurd (omega arith)
 told-8 (some (refusal n)) h = let e : n ≡ 8 = cc in cc
 
--- what the answering end makes of 8 where gathered bytes stand at the start of the store
-replied : (head : Bool) (a : Answering) (g store : List ℕ) → Stands g store
-    → answers head a (number 8) store ≡ record { reply = some (reply head 2 (getD g 0 0) (getD g 3 0)); handsOut = false; after = a }
+-- what the responding end makes of 8 where gathered bytes stand at the start of the store
+replied : (head : Bool) (a : Responder) (g store : List ℕ) → Stands g store
+    → responds head a (refused 8) store ≡ record { reply = some (reply head (getD g 0 0) 2 (getD g 3 0)); handsOut = false; after = a }
 replied head a g store r =
     let room : 4 ≤ length store = omega (arith, r .long, sym (length-take (length g) store) ∙ ap length (r .here)) in
     let here : (i : ℕ) → i < 8 → getD store i 0 ≡ getD g i 0 =
@@ -83,9 +83,9 @@ replied head a g store r =
 pub check-error-as-gathered : CheckErrorAsGathered
 check-error-as-gathered head a c piece h =
     let r = refused-header c piece (told-8 _ h) in
-    (r .long, rw h (replied head a (gatheredBefore c piece) (answer link c piece .2 .1) r))
+    (r .long, rw h (replied head a (gatheredBefore c piece) (receives link c piece .2 .1) r))
 
 pub check-error-as-sent : CheckErrorAsSent
 check-error-as-sent head a pieces piece store y room h =
     let (g, r) = refused-as-sent pieces piece store y room (told-8 _ h) in
-    (g, r, rw h (replied head a g (answer link (afterStream pieces store) piece .2 .1) (r .stands)))
+    (g, r, rw h (replied head a g (receives link (afterStream pieces store) piece .2 .1) (r .stands)))

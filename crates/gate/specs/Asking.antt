@@ -10,11 +10,11 @@ pub record Exchange : Type 0 where
   pub repeat : ℕ
   pub sent : ℕ
 
--- what happens at a time: a start, a tick, the arrival of a reply of this type with this id
+-- what happens at a time: a start, a tick, the arrival of a reply with this id, of this type
 pub data Step : Type 0 where
   start : (now : ℕ) → Step
   tick : (now : ℕ) → Step
-  arrival : (kind id now : ℕ) → Step
+  arrival : (id kind now : ℕ) → Step
 
 -- what the end is told: to send its request with this id and repeat; that the request is done, or given up; nothing; the number of a refusal
 pub data Asked : Type 0 where
@@ -61,7 +61,7 @@ replied e kind now = cond (eqb kind 1) (done, ended e) (cond (eqb kind 2) (again
 abbrev pub acts : Exchange → Step → Asked × Exchange
 acts e (start now) = cond (eqb (e .mode) 0) (sends ((e .id + 1) % 256) 0 now) (refused 14, e)
 acts e (tick now) = cond (eqb (e .mode) 1 && waitOver now (e .sent)) (again e now) (nothing, e)
-acts e (arrival kind id now) = cond (eqb (e .mode) 1 && eqb id (e .id)) (replied e kind now) (nothing, e)
+acts e (arrival id kind now) = cond (eqb (e .mode) 1 && eqb id (e .id)) (replied e kind now) (nothing, e)
 
 -- a step in any state: 12 comes before everything else and changes nothing
 abbrev pub asks : Exchange → Step → Asked × Exchange

@@ -7,9 +7,9 @@ use mathlib.Core.List.{List, [], _∷_, _++_}
 use mathlib.Core.Option.{Option, none, some, Option·map}
 use lib.ListN.{length, getD, take}
 use Rattle.runs.specs.Runs.{Bytes}
-use Rattle.framing.specs.Answer.{refused}
+use Rattle.framing.specs.Answer as Answer
 use Rattle.framing.specs.Receiver.{emit, join}
-use Rattle.framing.specs.Link.{Lent, Told, number, writeOn, answer}
+use Rattle.framing.specs.Link.{Lent, Told, refused, writeOn, receives}
 use Rattle.framing.specs.Claims.{AllOf}
 use Rattle.expansion.specs.Frame.{ok, frame}
 use Rattle.expansion.specs.Frame as Frame
@@ -19,7 +19,7 @@ use Rattle.expansion.specs.Claims.{gatheredBefore, RefusedFrame, afterStream}
 use Rattle.expansion.specs.declared.Message.{Message}
 use Rattle.gate.specs.Asking.{Exchange, Step, start, tick, arrival, Asked, send, done, gaveUp, nothing, freshExchange, known, waitOver, asks}
 use Rattle.gate.specs.Asking as Asking
-use Rattle.gate.specs.Answering.{Answering, reply, answers}
+use Rattle.gate.specs.Responder.{Responder, reply, responds}
 
 -- the id and the repeat of a request that is sent
 abbrev pub requestOf : Asked → Option (ℕ × ℕ)
@@ -33,7 +33,7 @@ requestOf (Asking.refused n) = none
 abbrev pub startOf : Step → Asked → Option ℕ
 startOf (start now) a = Option·map (λ m. m .0) (requestOf a)
 startOf (tick now) a = none
-startOf (arrival kind id now) a = none
+startOf (arrival id kind now) a = none
 
 -- over any steps, in any order: the state after them, the requests that are sent, and the ids of the starts that are taken
 unfoldable pub after : Exchange → List Step → Exchange
@@ -65,7 +65,7 @@ IdsGoRound = (ss : List Step) (n : ℕ) → n < length (starts freshExchange ss)
 -- a reply with another id than the state's tells nothing, or 12, and changes nothing
 abbrev pub OtherIdChangesNothing : Type 0
 OtherIdChangesNothing =
-    (e : Exchange) (kind id now : ℕ) → (id ≡ e .id → ⊥) → asks e (arrival kind id now) ≡ (cond (known e) nothing (Asking.refused 12), e)
+    (e : Exchange) (id kind now : ℕ) → (id ≡ e .id → ⊥) → asks e (arrival id kind now) ≡ (cond (known e) nothing (Asking.refused 12), e)
 
 -- so many milliseconds behind sent, going round, a wait is over exactly when they are at least 100
 abbrev pub WaitOverIff : Type 0
@@ -76,28 +76,33 @@ WaitOverIff =
 pub record Sendable (m : Frame.Message) : Type 0 where
   pub may : ok m ≡ true
   pub short : length (frame m) ≤ 18
-  pub never3 : (memory : List ℕ) → writeOn link m memory .0 ≡ refused 3 → ⊥
+  pub never3 : (memory : List ℕ) → writeOn link m memory .0 ≡ Answer.refused 3 → ⊥
 
 -- every reply is such a message
 abbrev pub ReplySendable : Type 0
 ReplySendable =
-    (head : Bool) (a : Answering) (t : Told Message) (store : List ℕ) (m : Frame.Message) → answers head a t store .reply ≡ some m → Sendable m
+    (head : Bool) (a : Responder) (t : Told Message) (store : List ℕ) (m : Frame.Message)
+    → responds head a t store .reply ≡ some m → Sendable m
 
 -- where the receiver tells 8, what is made of its answer and of the store after the call is a check error with the id and, from the head, the
 -- address of the gathered bytes of the refused frame, which are at least eight
 abbrev pub CheckErrorAsGathered : Type 0
 CheckErrorAsGathered =
-    (head : Bool) (a : Answering) (c : Lent link) (piece : List ℕ) → answer link c piece .0 ≡ number 8
-    → (8 ≤ length (gatheredBefore c piece))
-    × (answers head a (answer link c piece .0) (answer link c piece .2 .1)
-    ≡ record { reply = some (reply head 2 (getD (gatheredBefore c piece) 0 0) (getD (gatheredBefore c piece) 3 0)); handsOut = false; after = a })
+    (head : Bool) (a : Responder) (c : Lent link) (piece : List ℕ)
+    → let call = receives link c piece in
+    let g = gatheredBefore c piece in
+    call .0 ≡ refused 8
+    → (8 ≤ length g)
+    × (responds head a (call .0) (call .2 .1)
+    ≡ record { reply = some (reply head (getD g 0 0) 2 (getD g 3 0)); handsOut = false; after = a })
 
 -- in a stream, cut anywhere, that a fresh receiver reads, they are the id and the address that the refused frame has on the wire
 abbrev pub CheckErrorAsSent : Type 0
 CheckErrorAsSent =
-    (head : Bool) (a : Answering) (pieces : List (List ℕ)) (piece store : List ℕ) → Bytes (join pieces ++ piece) → size ≤ length store
-    → answer link (afterStream pieces store) piece .0 ≡ number 8
+    (head : Bool) (a : Responder) (pieces : List (List ℕ)) (piece store : List ℕ) → Bytes (join pieces ++ piece) → size ≤ length store
+    → let call = receives link (afterStream pieces store) piece in
+    call .0 ≡ refused 8
     → (g : List ℕ)
-    × RefusedFrame (join pieces ++ take (answer link (afterStream pieces store) piece .1) piece) (answer link (afterStream pieces store) piece .2 .1) g
-    × (answers head a (answer link (afterStream pieces store) piece .0) (answer link (afterStream pieces store) piece .2 .1)
-    ≡ record { reply = some (reply head 2 (getD g 0 0) (getD g 3 0)); handsOut = false; after = a })
+    × RefusedFrame (join pieces ++ take (call .1) piece) (call .2 .1) g
+    × (responds head a (call .0) (call .2 .1)
+    ≡ record { reply = some (reply head (getD g 0 0) 2 (getD g 3 0)); handsOut = false; after = a })

@@ -3,16 +3,16 @@ use mathlib.Core.Option.{Option, none, some}
 use mathlib.Core.List.{[]}
 use Rattle.expansion.specs.Frame as Frame
 use Rattle.gate.specs.Asking as Asking
-use Rattle.gate.specs.Answering as Answering
+use Rattle.gate.specs.Responder as Responder
 use Rattle.gate.specs.Chain as Chain
 use Rattle.gate.specs.declared.Exchange.{Exchange}
 use Rattle.gate.specs.declared.Asked.{Asked}
 use Rattle.gate.specs.declared.Asked.the-variants as asked
 use Rattle.gate.specs.declared.Stepped.{Stepped}
-use Rattle.gate.specs.declared.Answering.{Answering as State}
+use Rattle.gate.specs.declared.Responder.{Responder as State}
 use Rattle.gate.specs.declared.Reply.{Reply}
 use Rattle.gate.specs.declared.Reply.the-variants as reply
-use Rattle.gate.specs.declared.Answered.{Answered}
+use Rattle.gate.specs.declared.Response.{Response}
 use Rattle.gate.specs.declared.Hop.{Hop}
 use Rattle.gate.specs.declared.Hop.the-variants as hop
 
@@ -32,18 +32,18 @@ askedOf (asked.Refused n) = Asking.refused n
 abbrev pub steppedOf : Stepped → Asking.Asked × Asking.Exchange
 steppedOf r = (askedOf (r .asked), exchangeOf (r .state))
 
--- the answering end's state
-abbrev pub answeringOf : State → Answering.Answering
-answeringOf a = record { handed = a .handed; last = a .last }
+-- the responding end's state
+abbrev pub responderOf : State → Responder.Responder
+responderOf a = record { handed = a .handed; last = a .last }
 
--- each case of a reply: none, or a message of this type, id and address, with repeat 0 and no data
+-- each case of a reply: none, or a message of this id, type and address, with repeat 0 and no data
 abbrev pub replyOf : Reply → Option Frame.Message
 replyOf reply.Nothing = none
-replyOf (reply.Send kind id address) = some (record { id = id; kind = kind; repeat = 0; address = address; payload = [] })
+replyOf (reply.Send id kind address) = some (record { id = id; kind = kind; repeat = 0; address = address; payload = [] })
 
--- the answer of the answering end: the reply, whether the request is handed out, the state after
-abbrev pub answeredOf : Answered → Answering.Answered
-answeredOf r = record { reply = replyOf (r .reply); handsOut = r .«handed_out»; after = answeringOf (r .state) }
+-- the answer of the responding end: the reply, whether the request is handed out, the state after
+abbrev pub responseOf : Response → Responder.Response
+responseOf r = record { reply = replyOf (r .reply); handsOut = r .«handed_out»; after = responderOf (r .state) }
 
 -- each case of a step along the chain
 abbrev pub hopOf : Hop → Chain.Hop

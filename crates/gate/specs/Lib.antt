@@ -1,6 +1,6 @@
--- A reader checks the crate in this order: the asking end, the answering end, the chain address, what the functions answer, and what is claimed.
+-- A reader checks the crate in this order: the asking end, the responding end, the chain address, what the functions answer, and what is claimed.
 pub mod Asking
-pub mod Answering
+pub mod Responder
 pub mod Chain
 pub mod Contract
 pub mod Claims

@@ -1,4 +1,4 @@
-// The gate exchange on the expansion link: the asking end, the answering end, and the steps of an address along the chain of boards.
+// The gate exchange on the expansion link: the asking end, the responding end, and the steps of an address along the chain of boards.
 use expansion::Event;
 use expansion::Message;
 use framing::refusal;
@@ -7,9 +7,9 @@ ghost use mathlib.Core.Option.{some};
 ghost use Rattle.expansion.specs.Contract.{toldOf};
 ghost use Rattle.gate.specs.Asking as Rules;
 ghost use Rattle.gate.specs.Asking.{freshExchange, known, waitOver, sends, ended, again, asks};
-ghost use Rattle.gate.specs.Answering.{freshAnswering, isRepeated, silent, reply, accepts, refuses, answers};
+ghost use Rattle.gate.specs.Responder.{freshResponder, isRepeated, silent, reply, accepts, refuses, responds};
 ghost use Rattle.gate.specs.Chain.{stepsDown, stepsUp};
-ghost use Rattle.gate.specs.Contract.{exchangeOf, askedOf, steppedOf, answeringOf, replyOf, answeredOf, hopOf};
+ghost use Rattle.gate.specs.Contract.{exchangeOf, askedOf, steppedOf, responderOf, replyOf, responseOf, hopOf};
 
 // The modes of an asking end.
 const IDLE: u16 = 0;
@@ -159,9 +159,9 @@ pub fn tick(state: Exchange, now: u32) -> Stepped
     send_again(state, now)
 }
 
-// A reply of this type with this id.
-pub fn arrived(state: Exchange, kind: u8, id: u8, now: u32) -> Stepped
-    ensures { λ r. ⌜ steppedOf r ≡ asks (exchangeOf state) (Rules.arrival kind id now) ⌝ }
+// A reply with this id, of this type.
+pub fn arrived(state: Exchange, id: u8, kind: u8, now: u32) -> Stepped
+    ensures { λ r. ⌜ steppedOf r ≡ asks (exchangeOf state) (Rules.arrival id kind now) ⌝ }
 {
     if !is_known(state) {
         return unchanged(Asked::Refused(refusal::UNKNOWN_STATE), state);
@@ -181,38 +181,38 @@ pub fn arrived(state: Exchange, kind: u8, id: u8, now: u32) -> Stepped
     unchanged(Asked::Nothing, state)
 }
 
-// The answering end: whether a request was handed out, and the id of the last one.
-pub struct Answering {
+// The responding end: whether a request was handed out, and the id of the last one.
+pub struct Responder {
     pub handed: bool,
     pub last: u8,
 }
 
-// The reply to send: none, or a message of this type, id and address, with repeat 0 and no data.
+// The reply to send: none, or a message of this id, type and address, with repeat 0 and no data.
 pub enum Reply {
     Nothing,
     Send(u8, u8, u8),
 }
 
 // The reply, whether the request is handed out, and the state after.
-pub struct Answered {
+pub struct Response {
     pub reply: Reply,
     pub handed_out: bool,
-    pub state: Answering,
+    pub state: Responder,
 }
 
-// An answering end that has handed out nothing.
-pub fn fresh_answering() -> Answering
-    ensures { λ r. ⌜ answeringOf r ≡ freshAnswering ⌝ }
+// A responding end that has handed out nothing.
+pub fn fresh_responder() -> Responder
+    ensures { λ r. ⌜ responderOf r ≡ freshResponder ⌝ }
 {
-    Answering {
+    Responder {
         handed: false,
         last: 0,
     }
 }
 
 // Whether a request was handed out before.
-fn is_repeated(state: Answering, id: u8, repeat: u8) -> bool
-    ensures { λ r. ⌜ r ≡ isRepeated (answeringOf state) id repeat ⌝ }
+fn is_repeated(state: Responder, id: u8, repeat: u8) -> bool
+    ensures { λ r. ⌜ r ≡ isRepeated (responderOf state) id repeat ⌝ }
 {
     if !state.handed {
         return false;
@@ -223,10 +223,10 @@ fn is_repeated(state: Answering, id: u8, repeat: u8) -> bool
     repeat > 0
 }
 
-fn say_nothing(state: Answering) -> Answered
-    ensures { λ r. ⌜ answeredOf r ≡ silent (answeringOf state) ⌝ }
+fn say_nothing(state: Responder) -> Response
+    ensures { λ r. ⌜ responseOf r ≡ silent (responderOf state) ⌝ }
 {
-    Answered {
+    Response {
         reply: Reply::Nothing,
         handed_out: false,
         state: state,
@@ -234,34 +234,34 @@ fn say_nothing(state: Answering) -> Answered
 }
 
 // A reply to a frame that arrived with this address: the head's keeps it, a board's has 0.
-fn reply_to(head: bool, kind: u8, id: u8, address: u8) -> Reply
-    ensures { λ r. ⌜ replyOf r ≡ some (reply head kind id address) ⌝ }
+fn reply_to(head: bool, id: u8, kind: u8, address: u8) -> Reply
+    ensures { λ r. ⌜ replyOf r ≡ some (reply head id kind address) ⌝ }
 {
     if head {
-        return Reply::Send(kind, id, address);
+        return Reply::Send(id, kind, address);
     }
-    Reply::Send(kind, id, 0)
+    Reply::Send(id, kind, 0)
 }
 
 // An accepted frame.
-fn answer_message(state: Answering, head: bool, message: Message) -> Answered
-    ensures { λ r. ⌜ answeredOf r ≡ accepts head (answeringOf state) message ⌝ }
+fn respond_to_message(state: Responder, head: bool, message: Message) -> Response
+    ensures { λ r. ⌜ responseOf r ≡ accepts head (responderOf state) message ⌝ }
 {
     if message.kind != REQUEST {
         return say_nothing(state);
     }
-    let reply = reply_to(head, ACKNOWLEDGEMENT, message.id, message.address);
+    let reply = reply_to(head, message.id, ACKNOWLEDGEMENT, message.address);
     if is_repeated(state, message.id, message.repeat) {
-        return Answered {
+        return Response {
             reply: reply,
             handed_out: false,
             state: state,
         };
     }
-    Answered {
+    Response {
         reply: reply,
         handed_out: true,
-        state: Answering {
+        state: Responder {
             handed: true,
             last: message.id,
         },
@@ -269,8 +269,8 @@ fn answer_message(state: Answering, head: bool, message: Message) -> Answered
 }
 
 // A refused frame, whose gathered bytes stand at the front of the store.
-fn answer_refusal(state: Answering, head: bool, number: u8, store: &[u8]) -> Answered
-    ensures { λ r. ⌜ answeredOf r ≡ refuses head (answeringOf state) number (now (store .entry)) ⌝ }
+fn respond_to_refusal(state: Responder, head: bool, number: u8, store: &[u8]) -> Response
+    ensures { λ r. ⌜ responseOf r ≡ refuses head (responderOf state) number (now (store .entry)) ⌝ }
 {
     if number != refusal::WRONG_CHECK {
         return say_nothing(state);
@@ -278,8 +278,8 @@ fn answer_refusal(state: Answering, head: bool, number: u8, store: &[u8]) -> Ans
     if store.len() < 4 {
         return say_nothing(state);
     }
-    let reply = reply_to(head, CHECK_ERROR, store[0], store[3]);
-    Answered {
+    let reply = reply_to(head, store[0], CHECK_ERROR, store[3]);
+    Response {
         reply: reply,
         handed_out: false,
         state: state,
@@ -287,13 +287,13 @@ fn answer_refusal(state: Answering, head: bool, number: u8, store: &[u8]) -> Ans
 }
 
 // What to do with the receiver's answer, from the store as that call left it.
-pub fn answer(state: Answering, head: bool, event: Event, store: &[u8]) -> Answered
-    ensures { λ r. ⌜ answeredOf r ≡ answers head (answeringOf state) (toldOf event) (now (store .entry)) ⌝ }
+pub fn respond(state: Responder, head: bool, event: Event, store: &[u8]) -> Response
+    ensures { λ r. ⌜ responseOf r ≡ responds head (responderOf state) (toldOf event) (now (store .entry)) ⌝ }
 {
     match event {
         Event::Nothing => say_nothing(state),
-        Event::Accepted(message) => answer_message(state, head, message),
-        Event::Refused(number) => answer_refusal(state, head, number, store),
+        Event::Accepted(message) => respond_to_message(state, head, message),
+        Event::Refused(number) => respond_to_refusal(state, head, number, store),
     }
 }
 

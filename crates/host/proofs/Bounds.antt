@@ -17,8 +17,8 @@ use Rattle.mdu.specs.Contract as Mdu
 use Rattle.mdu.specs.Frame.{lengthOk}
 use Rattle.mdu.proofs.Known.{length-most}
 use Rattle.dle.specs.Contract as Dle
-use Rattle.dle.specs.Frame.{payload}
-use Rattle.dle.proofs.Payload.{payload-short}
+use Rattle.dle.specs.Frame.{body}
+use Rattle.dle.proofs.Body.{body-short}
 use Rattle.expansion.specs.Contract as Expansion
 use Rattle.expansion.proofs.Theorems as expansion
 use Rattle.host.specs.Claims.{FrameBound}
@@ -34,7 +34,7 @@ mdu-bound m h =
     simp length-append (omega arith)
 
 pub dle-bound : FrameBound Dle.link
-dle-bound m h = simp length-append (omega (arith, payload-short m h, hide-short dle dle-lawful (payload m)))
+dle-bound m h = simp length-append (omega (arith, body-short m h, hide-short dle dle-lawful (body m)))
 
 pub expansion-bound : FrameBound Expansion.link
 expansion-bound = expansion.frame-bound

@@ -6,7 +6,7 @@ use native.Mathlib.Omega.{arith}
 use native.Mathlib.Nat.{zero-div, pow-zero, pow-succ', div-div-eq-div-mul}
 use lib.ListN.{getD}
 use Rattle.runs.specs.Runs.{Bytes}
-use Rattle.runs.specs.Number.{number}
+use Rattle.runs.specs.Number.{littleEndian}
 use Rattle.host.specs.Read.{packed, refusalOf, lengthOf, kindOf, fieldOf}
 
 module _ (size kind : ℕ) (fields : List ℕ) where
@@ -23,17 +23,17 @@ module _ (size kind : ℕ) (fields : List ℕ) where
   unfolding packed
   packed-kind h = omega arith
 
-  packed-fields : packed size kind fields / 2 ^ 24 ≡ number fields
+  packed-fields : packed size kind fields / 2 ^ 24 ≡ littleEndian fields
   unfolding packed
   packed-fields = omega arith
 
-other-fields : (b : ℕ) (bs : List ℕ) → b < 2 ^ 8 → number (b ∷ bs) / 2 ^ 8 ≡ number bs
-unfolding number
+other-fields : (b : ℕ) (bs : List ℕ) → b < 2 ^ 8 → littleEndian (b ∷ bs) / 2 ^ 8 ≡ littleEndian bs
+unfolding littleEndian
 other-fields b bs h = omega arith
 
 -- field number i, and 0 past the last
-field-at : (fields : List ℕ) (i : ℕ) → Bytes fields → number fields / 256 ^ i % 2 ^ 8 ≡ getD fields i 0
-unfolding number
+field-at : (fields : List ℕ) (i : ℕ) → Bytes fields → littleEndian fields / 256 ^ i % 2 ^ 8 ≡ getD fields i 0
+unfolding littleEndian
 field-at [] i y = simp zero-div
 field-at (b ∷ bs) zero y = rw pow-zero (let l = y 0 in omega arith)
 field-at (b ∷ bs) (suc i) y =

@@ -13,7 +13,7 @@ use mir.ValLaws.{toZ-pos, toZ-ofZ}
 use Rattle.runs.proofs.Cases.{by-test, by-leb}
 use Rattle.framing.specs.Answer.{Outcome, storedAt}
 use Rattle.framing.specs.Link.{Link, writeOn}
-use Rattle.host.specs.Write.{signed, writesTo}
+use Rattle.host.specs.Write.{int32Of, writesTo}
 use Rattle.host.specs.Steps.{Short}
 use Rattle.host.specs.Claims.{FrameBound}
 
@@ -49,5 +49,5 @@ module _ (L : Link) (bound : FrameBound L) (m : L .Message) (out : List ℕ) {o 
   pub answer-short : Short o
   answer-short = subst (λ (w : Outcome ℕ × List ℕ). Short (w .0)) (sym e) (written-short L bound m out)
 
-  pub answer-is : (r : ℤ) → SFits w32 r → r ≡ signed o → (toZ w32 (ofZ w32 r), after) ≡ writesTo L m out
-  answer-is r f h = rw (toZ-ofZ w32 r f, h) (ap (λ (p : Outcome ℕ × List ℕ). (signed (p .0), p .1)) e)
+  pub answer-is : (r : ℤ) → SFits w32 r → r ≡ int32Of o → (toZ w32 (ofZ w32 r), after) ≡ writesTo L m out
+  answer-is r f h = rw (toZ-ofZ w32 r f, h) (ap (λ (p : Outcome ℕ × List ℕ). (int32Of (p .0), p .1)) e)

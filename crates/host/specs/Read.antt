@@ -3,7 +3,7 @@ use Prim.Native.Nat.{ℕ, _+_, _*_, _/_, _%_, _^_}
 use mathlib.Core.Bool.{cond}
 use mathlib.Core.List.{List, [], _∷_}
 use lib.Dec.{eqb}
-use Rattle.runs.specs.Number.{number}
+use Rattle.runs.specs.Number.{littleEndian}
 use Rattle.framing.specs.Answer.{Outcome, done, refused}
 use Rattle.framing.specs.Link.{Link}
 use Rattle.framing.specs.Whole.{readOn}
@@ -14,7 +14,7 @@ use Rattle.expansion.specs.declared.Message as Expansion
 
 -- a message: bits 0 to 7 are 0, then 12 bits of data length and 2 of kind, and from bit 24 a byte for each field, the first lowest
 unfoldable pub packed : ℕ → ℕ → List ℕ → ℕ
-packed size kind fields = 2 ^ 8 * (size % 2 ^ 12) + 2 ^ 20 * (kind % 2 ^ 2) + 2 ^ 24 * number fields
+packed size kind fields = 2 ^ 8 * (size % 2 ^ 12) + 2 ^ 20 * (kind % 2 ^ 2) + 2 ^ 24 * littleEndian fields
 
 -- a message by its code; a refusal is its number, and then nothing else
 abbrev pub encode : {N : Type 0} → (N → ℕ) → Outcome N → ℕ

@@ -11,7 +11,7 @@ ghost use Rattle.dle.specs.Contract as Dle;
 ghost use Rattle.dle.specs.Frame.{content, error as errorMessage};
 ghost use Rattle.expansion.specs.Contract as Expansion;
 ghost use Rattle.host.specs.Read.{packed, encode, reads, pcsCode, mduCode, dleCode, expansionCode};
-ghost use Rattle.host.specs.Write.{signed, writesTo};
+ghost use Rattle.host.specs.Write.{int32Of, writesTo};
 ghost use Rattle.host.specs.Steps.{Short};
 
 // Whether a call used a whole run of this length, none of it noise. The noise count goes round at 2^32, and no frame is as long as that.
@@ -35,9 +35,9 @@ fn pack(size: usize, kind: u8, a: u8, b: u8, c: u8, d: u8, e: u8) -> u64
 }
 
 // A writer's answer as one number: the length, or minus the refusal's number.
-fn signed_of(answer: Answer) -> i32
+fn int32_of(answer: Answer) -> i32
     requires { ⌜ Short (outcomeOf answer) ⌝ }
-    ensures { λ r. ⌜ r ≡ signed (outcomeOf answer) ⌝ }
+    ensures { λ r. ⌜ r ≡ int32Of (outcomeOf answer) ⌝ }
 {
     match answer {
         Answer::Done(n) => n as i32,
@@ -57,9 +57,17 @@ pub extern "C" fn linebox_pcs_write(
     data: &[u8],
     out: &mut [u8],
 ) -> i32
-    ensures { λ r. ⌜ (r, now (out .exit)) ≡ writesTo Pcs.link (record { receiver = receiver; sender = sender; kind = kind; number = number; sender-port = «sender_port»; receiver-port = «receiver_port»; payload = now («data» .entry) }) (now (out .entry)) ⌝ }
+    ensures { λ r. ⌜ (r, now (out .exit)) ≡ writesTo Pcs.link (record {
+      receiver = receiver;
+      sender = sender;
+      kind = kind;
+      number = number;
+      sender-port = «sender_port»;
+      receiver-port = «receiver_port»;
+      payload = now («data» .entry);
+    }) (now (out .entry)) ⌝ }
 {
-    signed_of(pcs::write(
+    int32_of(pcs::write(
         receiver,
         sender,
         kind,
@@ -76,7 +84,7 @@ pub extern "C" fn linebox_pcs_write(
 pub extern "C" fn linebox_mdu_write(address: u8, body: &[u8], out: &mut [u8]) -> i32
     ensures { λ r. ⌜ (r, now (out .exit)) ≡ writesTo Mdu.link (record { address = address; body = now (body .entry) }) (now (out .entry)) ⌝ }
 {
-    signed_of(mdu::write(address, body, out))
+    int32_of(mdu::write(address, body, out))
 }
 
 // Writes a DLE message with data.
@@ -84,7 +92,7 @@ pub extern "C" fn linebox_mdu_write(address: u8, body: &[u8], out: &mut [u8]) ->
 pub extern "C" fn linebox_dle_write(sequence: u8, node: u8, data: &[u8], out: &mut [u8]) -> i32
     ensures { λ r. ⌜ (r, now (out .exit)) ≡ writesTo Dle.link (content sequence node (now («data» .entry))) (now (out .entry)) ⌝ }
 {
-    signed_of(dle::write(sequence, node, data, out))
+    int32_of(dle::write(sequence, node, data, out))
 }
 
 // Writes a DLE error message.
@@ -92,7 +100,7 @@ pub extern "C" fn linebox_dle_write(sequence: u8, node: u8, data: &[u8], out: &m
 pub extern "C" fn linebox_dle_write_error(sequence: u8, node: u8, error: u8, out: &mut [u8]) -> i32
     ensures { λ r. ⌜ (r, now (out .exit)) ≡ writesTo Dle.link (errorMessage sequence node error) (now (out .entry)) ⌝ }
 {
-    signed_of(dle::write_error(sequence, node, error, out))
+    int32_of(dle::write_error(sequence, node, error, out))
 }
 
 // Writes an expansion message; its type is named `kind`, since `type` is a word of the language.
@@ -105,13 +113,14 @@ pub extern "C" fn linebox_expansion_write(
     data: &[u8],
     out: &mut [u8],
 ) -> i32
-    ensures { λ r. ⌜ (r, now (out .exit)) ≡ writesTo Expansion.link (record { id = id; kind = kind; repeat = repeat; address = address; payload = now («data» .entry) }) (now (out .entry)) ⌝ }
+    ensures { λ r. ⌜ (r, now (out .exit)) ≡ writesTo Expansion.link
+        (record { id = id; kind = kind; repeat = repeat; address = address; payload = now («data» .entry) }) (now (out .entry)) ⌝ }
 {
-    signed_of(expansion::write(id, kind, repeat, address, data, out))
+    int32_of(expansion::write(id, kind, repeat, address, data, out))
 }
 
-// What a PCS event is answered as; `exact` tells whether its frame is the whole run.
-fn pcs_answer(event: pcs::Event, exact: bool) -> u64
+// What a PCS event tells, as one number; `exact` tells whether its frame is the whole run.
+fn encode_pcs(event: pcs::Event, exact: bool) -> u64
     ensures { λ r. ⌜ r ≡ encode pcsCode (settle exact (Pcs.toldOf event)) ⌝ }
 {
     match event {
@@ -135,8 +144,8 @@ fn pcs_answer(event: pcs::Event, exact: bool) -> u64
     }
 }
 
-// What an MDU event is answered as.
-fn mdu_answer(event: mdu::Event, exact: bool) -> u64
+// What an MDU event tells, as one number.
+fn encode_mdu(event: mdu::Event, exact: bool) -> u64
     ensures { λ r. ⌜ r ≡ encode mduCode (settle exact (Mdu.toldOf event)) ⌝ }
 {
     match event {
@@ -163,8 +172,8 @@ fn dle_code(m: dle::Message) -> u64
     }
 }
 
-// What a DLE event is answered as.
-fn dle_answer(event: dle::Event, exact: bool) -> u64
+// What a DLE event tells, as one number.
+fn encode_dle(event: dle::Event, exact: bool) -> u64
     ensures { λ r. ⌜ r ≡ encode dleCode (settle exact (Dle.toldOf event)) ⌝ }
 {
     match event {
@@ -180,8 +189,8 @@ fn dle_answer(event: dle::Event, exact: bool) -> u64
     }
 }
 
-// What an expansion event is answered as.
-fn expansion_answer(event: expansion::Event, exact: bool) -> u64
+// What an expansion event tells, as one number.
+fn encode_expansion(event: expansion::Event, exact: bool) -> u64
     ensures { λ r. ⌜ r ≡ encode expansionCode (settle exact (Expansion.toldOf event)) ⌝ }
 {
     match event {
@@ -204,7 +213,7 @@ pub extern "C" fn linebox_pcs_read(frame: &[u8], store: &mut [u8]) -> u64
 {
     let got = pcs::receive(framing::fresh(), store, frame);
     let event = got.event;
-    pcs_answer(event, is_exact(frame.len(), got.used, got.state.noise))
+    encode_pcs(event, is_exact(frame.len(), got.used, got.state.noise))
 }
 
 // Reads one whole MDU frame.
@@ -214,7 +223,7 @@ pub extern "C" fn linebox_mdu_read(frame: &[u8], store: &mut [u8]) -> u64
 {
     let got = mdu::receive(mdu::fresh(), store, frame);
     let event = got.event;
-    mdu_answer(event, is_exact(frame.len(), got.used, got.state.base.noise))
+    encode_mdu(event, is_exact(frame.len(), got.used, got.state.base.noise))
 }
 
 // Reads one whole DLE frame.
@@ -224,7 +233,7 @@ pub extern "C" fn linebox_dle_read(frame: &[u8], store: &mut [u8]) -> u64
 {
     let got = dle::receive(framing::fresh(), store, frame);
     let event = got.event;
-    dle_answer(event, is_exact(frame.len(), got.used, got.state.noise))
+    encode_dle(event, is_exact(frame.len(), got.used, got.state.noise))
 }
 
 // Reads one whole expansion frame.
@@ -234,5 +243,5 @@ pub extern "C" fn linebox_expansion_read(frame: &[u8], store: &mut [u8]) -> u64
 {
     let got = expansion::receive(framing::fresh(), store, frame);
     let event = got.event;
-    expansion_answer(event, is_exact(frame.len(), got.used, got.state.noise))
+    encode_expansion(event, is_exact(frame.len(), got.used, got.state.noise))
 }

@@ -8,9 +8,10 @@ use lib.ListN.{length, getD, take, take-append-drop, drop-of-length-le}
 use lib.Seq.{drop-cons}
 use Rattle.runs.specs.Runs.{Bytes}
 use Rattle.framing.proofs.Byte.{Reached}
-use Rattle.mdu.specs.Frame.{lengthOk, headerSum, header}
-use Rattle.mdu.specs.Rules.{Phase, hunting, head, tail, size, gathered, stated}
+use Rattle.mdu.specs.Frame.{lengthOk, header}
+use Rattle.mdu.specs.Rules.{Phase, hunting, inHeader, inBody, size, gathered, stated}
 use Rattle.mdu.specs.Contract.{link}
+use Rattle.mdu.proofs.Passed.{Passed}
 use Rattle.mdu.proofs.Known.{Sized, length-most}
 
 -- a header that was entered, and what follows it
@@ -25,21 +26,21 @@ pub record Entered (k : ℕ) (g : List ℕ) : Type 0 where
 
 abbrev pub Good : Phase → Type 0
 Good hunting = Unit
-Good (head g) = Bytes g × (1 ≤ length g) × (length g ≤ 5) × (getD g 0 0 ≡ 0xE3)
-Good (tail k g) = Entered k g
+Good (inHeader g) = Bytes g × (1 ≤ length g) × (length g ≤ 5) × (getD g 0 0 ≡ 0xE3)
+Good (inBody k g) = Entered k g
 
 pub good-sized : (p : Phase) → Good p → Sized p
 good-sized hunting g = tt
-good-sized (head x) g = (g .1, omega (arith, g .2))
-good-sized (tail k x) g =
+good-sized (inHeader x) g = (g .1, omega (arith, g .2))
+good-sized (inBody k x) g =
     let e : length x ≡ 6 + length (g .rest) = ap length (g .whole) ∙ omega arith in
     record { allowed = g .allowed; low = omega arith; high = omega (arith, g .short); most = length-most k (g .allowed) }
 
 -- fewer bytes than the store holds, with room for one more
 pub good-small : (p : Phase) → Good p → length (gathered p) < size
 good-small hunting g = omega arith
-good-small (head x) g = omega (arith, g .2)
-good-small (tail k x) g = let s = good-sized (tail k x) g in omega (arith, s .high, s .most)
+good-small (inHeader x) g = omega (arith, g .2)
+good-small (inBody k x) g = let s = good-sized (inBody k x) g in omega (arith, s .high, s .most)
 
 abbrev pub reached : Reached link
 reached =
@@ -63,15 +64,14 @@ six (a ∷ b ∷ c ∷ d ∷ e ∷ f ∷ []) h = refl
 six (a ∷ b ∷ c ∷ d ∷ e ∷ f ∷ x ∷ g) h = absurd (omega arith)
 
 -- the six bytes of a header that passes are the header of its length and address
-pub entered : (g : List ℕ) → length g ≡ 6 → Bytes g → getD g 0 0 ≡ 0xE3 → getD g 1 0 ≡ 1 → (getD g 4 0 ≡ 0 → ⊥) → getD g 5 0 ≡ headerSum g
-    → lengthOk (stated g) ≡ true → Entered (stated g) g
-entered g l y e v a s k =
+pub entered : (g : List ℕ) → length g ≡ 6 → Bytes g → getD g 0 0 ≡ 0xE3 → Passed g → Entered (stated g) g
+entered g l y e p =
     record {
       address = getD g 4 0;
       rest = [];
-      whole = six g l ∙ rw (s, e, v) same;
-      low = omega arith;
-      allowed = k;
+      whole = six g l ∙ rw (p .checked, e, p .version) same;
+      low = omega (arith, p .address);
+      allowed = p .allowed;
       bytes = λ i. omega arith;
       short = omega arith;
     }

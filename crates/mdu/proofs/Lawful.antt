@@ -10,18 +10,18 @@ use borrow.Author.Tests.{lt-ltb, le-ltb}
 use Rattle.runs.specs.Runs.{Bytes}
 use Rattle.runs.proofs.Cases.{by-eqb, by-ltb, and-both}
 use Rattle.runs.proofs.Bytes.{bytes-append}
-use Rattle.framing.specs.State as Shared
 use Rattle.framing.proofs.States.{shared-next, shared-leaves}
+use Rattle.framing.proofs.States as Shared
 use Rattle.framing.proofs.Lawful.{Lawful}
 use Rattle.checksum.specs.Crc.{crc16Of}
 use Rattle.checksum.proofs.CheckValue.{crc16-lt}
 use Rattle.mdu.specs.Frame.{Message, Typed, lengthOk, ok, header, trailer, frame}
-use Rattle.mdu.specs.Rules.{Phase, hunting, head, tail, gathered, held}
+use Rattle.mdu.specs.Rules.{Phase, hunting, inHeader, inBody, gathered, held}
 use Rattle.mdu.specs.Contract.{modeOf, lengthOf, phaseOf, link}
 use Rattle.mdu.specs.declared.State.{State}
 use Rattle.mdu.proofs.Known.{length-most, sized-known}
 use Rattle.mdu.proofs.Entered.{Good, good-sized, reached}
-use Rattle.mdu.proofs.Cut.{takes}
+use Rattle.mdu.proofs.OnByte.{takes}
 use Rattle.mdu.proofs.Readback.{reads-frame}
 
 abbrev stateOf : Phase → ℕ → State
@@ -29,8 +29,8 @@ stateOf p n = record { base = Shared.stateOf modeOf gathered held p n; length = 
 
 phase-of : (p : Phase) (n : ℕ) (store : List ℕ) → Good p → take (length (gathered p)) store ≡ gathered p → phaseOf (stateOf p n) store ≡ p
 phase-of hunting n store g h = refl
-phase-of (head x) n store g h = rw (lt-ltb (length x) 6 (good-sized (head x) g .1)) (ap head h)
-phase-of (tail k x) n store g h = rw (le-ltb (length x) 6 (good-sized (tail k x) g .low)) (ap (tail k) h)
+phase-of (inHeader x) n store g h = rw (lt-ltb (length x) 6 (good-sized (inHeader x) g .1)) (ap inHeader h)
+phase-of (inBody k x) n store g h = rw (le-ltb (length x) 6 (good-sized (inBody k x) g .low)) (ap (inBody k) h)
 
 -- only mode 0 hunts
 hunting-mode : (s : State) (store : List ℕ) → phaseOf s store ≡ hunting → s .base .mode ≡ 0

@@ -11,32 +11,34 @@ use lib.Dec.{leb}
 use borrow.Author.Tests.{leb-true, eq-eqb, ne-eqb}
 use Rattle.runs.proofs.Cases.{and-both}
 use Rattle.framing.specs.Receiver.{feed}
-use Rattle.framing.specs.Segment.{Segment, accepted, message, step}
+use Rattle.framing.specs.Segment.{Segment, acceptedFrame, message}
 use Rattle.framing.proofs.Feed.{Quiet, quiet-nil, quiet-cons, quiet-append, feed-event}
-use Rattle.framing.proofs.Segments.{step-open, step-accept}
+use Rattle.framing.proofs.Segments.{step, step-open, step-accept}
 use Rattle.framing.proofs.Lawful.{at}
 use Rattle.checksum.specs.Crc.{crc16Of}
 use Rattle.mdu.specs.Frame.{Message, lengthOk, ok, headerSum, five, header, trailer, frame}
-use Rattle.mdu.specs.Rules.{hunting, head, tail, stated, sentCheck, enter, finish, cut}
+use Rattle.mdu.specs.Rules.{hunting, inHeader, inBody, stated, sentCheck, headerFault, enter, finish, onByte}
+use Rattle.mdu.proofs.Passed.{Passed, no-fault}
 
-enter-header : (k a : ℕ) → 1 ≤ a → lengthOk k ≡ true → enter (header k a) ≡ (tail k (header k a), none)
+enter-header : (k a : ℕ) → 1 ≤ a → lengthOk k ≡ true → enter (header k a) ≡ (inBody k (header k a), none)
 enter-header k a low allowed =
     let e : stated (header k a) ≡ k = omega arith in
-    rw (ne-eqb a 0 (omega arith), eq-eqb (headerSum (five k a)) (headerSum (five k a)) refl, e, allowed)
+    let p : Passed (header k a) = record { version = refl; address = λ z. omega arith; checked = refl; allowed = rw e allowed } in
+    rw (eq-eqb (headerFault (header k a)) 0 (no-fault (header k a) p)) (ap (λ (n : ℕ). (inBody n (header k a), none)) e)
 
-header-quiet : (k a n : ℕ) → 1 ≤ a → lengthOk k ≡ true → Quiet (step cut) (at hunting n) (header k a) (at (tail k (header k a)) n)
+header-quiet : (k a n : ℕ) → 1 ≤ a → lengthOk k ≡ true → Quiet (step onByte) (at hunting n) (header k a) (at (inBody k (header k a)) n)
 header-quiet k a n low allowed =
-    quiet-cons (step cut) refl (quiet-cons (step cut) refl (quiet-cons (step cut) refl (quiet-cons (step cut) refl (quiet-cons (step cut) refl
-    (quiet-cons (step cut) (step-open cut (head (five k a)) (tail k (header k a)) n (headerSum (five k a)) (enter-header k a low allowed))
-    (quiet-nil (step cut) (at (tail k (header k a)) n)))))))
+    quiet-cons (step onByte) refl (quiet-cons (step onByte) refl (quiet-cons (step onByte) refl (quiet-cons (step onByte) refl (quiet-cons (step onByte) refl
+    (quiet-cons (step onByte) (step-open onByte (inHeader (five k a)) (inBody k (header k a)) n (headerSum (five k a)) (enter-header k a low allowed))
+    (quiet-nil (step onByte) (at (inBody k (header k a)) n)))))))
 
-tail-quiet : (k n : ℕ) (g xs : List ℕ) → length g + length xs ≤ 7 + k → Quiet (step cut) (at (tail k g) n) xs (at (tail k (g ++ xs)) n)
-tail-quiet k n g [] h = rw append-nil (quiet-nil (step cut) (at (tail k g) n))
-tail-quiet k n g (x ∷ xs) h =
-    quiet-cons (step cut) (step-open cut (tail k g) (tail k (g ++ (x ∷ []))) n x (rw (ne-eqb (length g) (7 + k) (omega arith))))
-    (rw append-snoc at (tail-quiet k n (g ++ (x ∷ [])) xs (simp length-append (omega arith))))
+body-quiet : (k n : ℕ) (g xs : List ℕ) → length g + length xs ≤ 7 + k → Quiet (step onByte) (at (inBody k g) n) xs (at (inBody k (g ++ xs)) n)
+body-quiet k n g [] h = rw append-nil (quiet-nil (step onByte) (at (inBody k g) n))
+body-quiet k n g (x ∷ xs) h =
+    quiet-cons (step onByte) (step-open onByte (inBody k g) (inBody k (g ++ (x ∷ []))) n x (rw (ne-eqb (length g) (7 + k) (omega arith))))
+    (rw append-snoc at (body-quiet k n (g ++ (x ∷ [])) xs (simp length-append (omega arith))))
 
-finish-frame : (m : Message) → finish (length (m .body)) (frame m) ≡ accepted m
+finish-frame : (m : Message) → finish (length (m .body)) (frame m) ≡ acceptedFrame m
 finish-frame m = rw (body-is, eq-eqb (sentCheck k (frame m)) c check)
   where
     k : ℕ
@@ -59,13 +61,13 @@ finish-frame m = rw (body-is, eq-eqb (sentCheck k (frame m)) c check)
         omega arith
 
 pub reads-frame : (m : Message) (rest : List ℕ) (n : ℕ) → ok m ≡ true
-    → feed (step cut) (at hunting n) (frame m ++ rest) ≡ record { event = some (message m); used = length (frame m); after = at hunting n }
+    → feed (step onByte) (at hunting n) (frame m ++ rest) ≡ record { event = some (message m); used = length (frame m); after = at hunting n }
 reads-frame m rest n h =
-    ap (λ (w : List ℕ). feed (step cut) (at hunting n) (w ++ rest)) whole
-    ∙ feed-event (step cut) start (c % 256) rest
-    (quiet-append (step cut) (header k a) (header-quiet k a n low (o .1))
-    (tail-quiet k n (header k a) (m .body ++ (c / 256 ∷ [])) (simp length-append (omega arith))))
-    (step-accept cut (tail k start) hunting n (c % 256) m last-byte)
+    ap (λ (w : List ℕ). feed (step onByte) (at hunting n) (w ++ rest)) whole
+    ∙ feed-event (step onByte) start (c % 256) rest
+    (quiet-append (step onByte) (header k a) (header-quiet k a n low (o .1))
+    (body-quiet k n (header k a) (m .body ++ (c / 256 ∷ [])) (simp length-append (omega arith))))
+    (step-accept onByte (inBody k start) hunting n (c % 256) m last-byte)
     ∙ ap (λ (w : List ℕ). record { event = some (message m); used = length w; after = at hunting n }) (sym whole)
   where
     k : ℕ
@@ -89,7 +91,7 @@ reads-frame m rest n h =
     whole : frame m ≡ start ++ (c % 256 ∷ [])
     whole = ap (λ (x : List ℕ). header k a ++ x) (sym (append-snoc (m .body) (c / 256) (c % 256 ∷ [])))
 
-    last-byte : cut (tail k start) (c % 256) ≡ (hunting, some (accepted m))
+    last-byte : onByte (inBody k start) (c % 256) ≡ (hunting, some (acceptedFrame m))
     last-byte =
         rw (eq-eqb (length start) (7 + k) (simp length-append (omega arith)))
         (ap (λ (x : Segment Message). (hunting, some x)) (ap (finish k) (sym whole) ∙ finish-frame m))

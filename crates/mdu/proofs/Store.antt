@@ -9,9 +9,9 @@ use lib.ListN.{length, getD, take, drop, set, length-drop}
 use lib.Seq.{length-take-le, take-suc-set, take-add, take-take, drop-at, getD-take}
 use borrow.Author.Tests.{eq-eqb, ne-eqb}
 use Rattle.framing.specs.Segment.{eventOf}
-use Rattle.framing.specs.Link.{told, numbers, number}
+use Rattle.framing.specs.Link.{told, accepted, refused}
 use Rattle.checksum.specs.Crc.{crc16Of}
-use Rattle.mdu.specs.Rules.{hunting, head, tail, sentCheck, enter, finish, cut}
+use Rattle.mdu.specs.Rules.{hunting, inHeader, inBody, sentCheck, enter, finish, onByte}
 use Rattle.mdu.specs.Contract.{link}
 
 module _ (store : List ℕ) (at b : ℕ) where
@@ -23,22 +23,22 @@ module _ (store : List ℕ) (at b : ℕ) where
     taken = length-take-le at store (omega arith)
 
     -- byte six, and a byte before it
-    pub head-enters : at ≡ 5 → cut (head (take at store)) b ≡ enter (take 6 (set store at b))
-    head-enters e =
+    pub header-enters : at ≡ 5 → onByte (inHeader (take at store)) b ≡ enter (take 6 (set store at b))
+    header-enters e =
         let k : 6 ≡ at + 1 = omega arith in
         rw (eq-eqb (length (take at store)) 5 (taken ∙ e), k) (ap enter (sym (more-take h)))
 
-    pub head-goes-on : (at ≡ 5 → ⊥) → cut (head (take at store)) b ≡ (head (take at store ++ (b ∷ [])), none)
-    head-goes-on n = rw (ne-eqb (length (take at store)) 5 (λ e. n (sym taken ∙ e)))
+    pub header-goes-on : (at ≡ 5 → ⊥) → onByte (inHeader (take at store)) b ≡ (inHeader (take at store ++ (b ∷ [])), none)
+    header-goes-on n = rw (ne-eqb (length (take at store)) 5 (λ e. n (sym taken ∙ e)))
 
     -- the last byte of a body of k, and a byte before it
-    pub tail-finishes : (k : ℕ) → at ≡ 7 + k → cut (tail k (take at store)) b ≡ (hunting, some (finish k (take (8 + k) (set store at b))))
-    tail-finishes k e =
+    pub body-finishes : (k : ℕ) → at ≡ 7 + k → onByte (inBody k (take at store)) b ≡ (hunting, some (finish k (take (8 + k) (set store at b))))
+    body-finishes k e =
         let n : 8 + k ≡ at + 1 = omega arith in
         rw (eq-eqb (length (take at store)) (7 + k) (taken ∙ e), n) (ap (λ (g : List ℕ). (hunting, some (finish k g))) (sym (more-take h)))
 
-    pub tail-goes-on : (k : ℕ) → (at ≡ 7 + k → ⊥) → cut (tail k (take at store)) b ≡ (tail k (take at store ++ (b ∷ [])), none)
-    tail-goes-on k n = rw (ne-eqb (length (take at store)) (7 + k) (λ e. n (sym taken ∙ e)))
+    pub body-goes-on : (k : ℕ) → (at ≡ 7 + k → ⊥) → onByte (inBody k (take at store)) b ≡ (inBody k (take at store ++ (b ∷ [])), none)
+    body-goes-on k n = rw (ne-eqb (length (take at store)) (7 + k) (λ e. n (sym taken ∙ e)))
 
 -- a frame with a body of k, whole at the start of a store
 module _ (store : List ℕ) (k : ℕ) (room : 8 + k ≤ length store) where
@@ -60,11 +60,11 @@ module _ (store : List ℕ) (k : ℕ) (room : 8 + k ≤ length store) where
   address-is = getD-take (8 + k) store 4 0 (omega arith)
 
   pub finish-accepts : sentCheck k store ≡ crc16Of (take k (drop 6 store))
-      → told link (eventOf (some (finish k (take (8 + k) store)))) ≡ numbers (record { address = getD store 4 0; length = k })
+      → told link (eventOf (some (finish k (take (8 + k) store)))) ≡ accepted (record { address = getD store 4 0; length = k })
   finish-accepts e =
       rw (eq-eqb (sentCheck k (take (8 + k) store)) (crc16Of (take k (drop 6 (take (8 + k) store)))) (check-is ∙ e ∙ ap crc16Of (sym body-is)))
-      (λ i. numbers (record { address = address-is i; length = (ap length body-is ∙ body-long) i }))
+      (λ i. accepted (record { address = address-is i; length = (ap length body-is ∙ body-long) i }))
 
-  pub finish-refuses : (sentCheck k store ≡ crc16Of (take k (drop 6 store)) → ⊥) → told link (eventOf (some (finish k (take (8 + k) store)))) ≡ number 8
+  pub finish-refuses : (sentCheck k store ≡ crc16Of (take k (drop 6 store)) → ⊥) → told link (eventOf (some (finish k (take (8 + k) store)))) ≡ refused 8
   finish-refuses n =
       rw (ne-eqb (sentCheck k (take (8 + k) store)) (crc16Of (take k (drop 6 (take (8 + k) store)))) (λ e. n (sym check-is ∙ e ∙ ap crc16Of body-is)))

@@ -7,10 +7,10 @@ use lib.ListN.{length, take}
 use lib.Dec.{leb, ltb, eqb}
 use Rattle.framing.specs.Segment.{Segment}
 use Rattle.framing.specs.State as Shared
-use Rattle.framing.specs.Link.{Link, Lent, Told, nothing, numbers, number, dataAt}
+use Rattle.framing.specs.Link.{Link, Lent, Told, nothing, accepted, refused, dataAt}
 use Rattle.mdu.specs.Frame.{Typed, lengthOk, ok, frame}
 use Rattle.mdu.specs.Frame as Frame
-use Rattle.mdu.specs.Rules.{Phase, hunting, head, tail, size, gathered, held, cut}
+use Rattle.mdu.specs.Rules.{Phase, hunting, inHeader, inBody, size, gathered, held, onByte}
 use Rattle.mdu.specs.declared.State.{State}
 use Rattle.mdu.specs.declared.Message.{Message}
 use Rattle.mdu.specs.declared.Event.{Event}
@@ -31,19 +31,19 @@ knownState s =
 -- the number of each phase: 0 hunting, 1 open; and the length that the state keeps
 abbrev pub modeOf : Phase → ℕ
 modeOf hunting = 0
-modeOf (head g) = 1
-modeOf (tail k g) = 1
+modeOf (inHeader g) = 1
+modeOf (inBody k g) = 1
 
 abbrev pub lengthOf : Phase → ℕ
 lengthOf hunting = 0
-lengthOf (head g) = 0
-lengthOf (tail k g) = k
+lengthOf (inHeader g) = 0
+lengthOf (inBody k g) = k
 
 -- the phase of a state: the gathered bytes are the first of the store
 abbrev pub phaseOf : State → List ℕ → Phase
 phaseOf s store =
     cond (eqb (s .base .mode) 0) hunting
-    (cond (ltb (s .base .count) 6) (head (take (s .base .count) store)) (tail (s .length) (take (s .base .count) store)))
+    (cond (ltb (s .base .count) 6) (inHeader (take (s .base .count) store)) (inBody (s .length) (take (s .base .count) store)))
 
 abbrev pub stateAfter : State → Phase → Option (Segment Frame.Message) → State
 stateAfter s p o = record { base = Shared.stateAfter modeOf gathered held (s .base) p o; length = lengthOf p }
@@ -51,8 +51,8 @@ stateAfter s p o = record { base = Shared.stateAfter modeOf gathered held (s .ba
 -- the byte that makes an event is gathered too
 abbrev pub front : Phase → ℕ → List ℕ
 front hunting b = cond (eqb b 0xE3) (b ∷ []) []
-front (head g) b = g ++ (b ∷ [])
-front (tail k g) b = g ++ (b ∷ [])
+front (inHeader g) b = g ++ (b ∷ [])
+front (inBody k g) b = g ++ (b ∷ [])
 
 -- the numbers told of a message
 abbrev pub numbersOf : Frame.Message → Message
@@ -75,7 +75,7 @@ link =
       frame = frame;
       Phase = Phase;
       hunting = hunting;
-      cut = cut;
+      onByte = onByte;
       gathered = gathered;
       held = held;
       size = size;
@@ -95,9 +95,9 @@ link =
 -- each case of the receiver's answer
 abbrev pub toldOf : Event → Told Message
 toldOf Nothing = nothing
-toldOf (Accepted m) = numbers m
-toldOf (Refused n) = number n
+toldOf (Accepted m) = accepted m
+toldOf (Refused n) = refused n
 
 -- an answer with the store after the call
-abbrev pub answerOf : Received → List ℕ → Told Message × ℕ × Lent link
-answerOf r store = (toldOf (r .event), r .used, (r .state, store))
+abbrev pub receivedOf : Received → List ℕ → Told Message × ℕ × Lent link
+receivedOf r store = (toldOf (r .event), r .used, (r .state, store))

@@ -7,9 +7,9 @@ use framing::Answer;
 ghost use mathlib.Core.Path.{_≡_};
 ghost use Rattle.framing.specs.Answer.{outcomeOf};
 ghost use Rattle.framing.specs.Writer.{writes};
-ghost use Rattle.framing.specs.Link.{answer};
+ghost use Rattle.framing.specs.Link.{receives};
 ghost use Rattle.mdu.specs.Frame.{ok, frame};
-ghost use Rattle.mdu.specs.Contract.{freshState, dataOf, link, answerOf};
+ghost use Rattle.mdu.specs.Contract.{freshState, dataOf, link, receivedOf};
 
 // The least store of a receiver: a header of 6 bytes, a body of at most 1,025, a check value of 2.
 const SIZE: usize = 1033;
@@ -52,7 +52,8 @@ pub fn fresh() -> State
 
 // Writes the frame of a message at the start of the lent memory, and answers its length.
 pub fn write(address: u8, body: &[u8], out: &mut [u8]) -> Answer
-    ensures { λ r. ⌜ (outcomeOf r, now (out .exit)) ≡ writes ok frame (record { address = address; body = now (body .entry) }) (now (out .entry)) ⌝ }
+    ensures { λ r. ⌜ (outcomeOf r, now (out .exit))
+        ≡ writes ok frame (record { address = address; body = now (body .entry) }) (now (out .entry)) ⌝ }
 {
     let n = body.len();
     if address < 1 {
@@ -73,7 +74,7 @@ pub fn write(address: u8, body: &[u8], out: &mut [u8]) -> Answer
 
 // A call of the receiver: uses the bytes of the piece until one makes an event, that one included.
 pub fn receive(state: State, store: &mut [u8], piece: &[u8]) -> Received
-    ensures { λ r. ⌜ answerOf r (now (store .exit)) ≡ answer link (state, now (store .entry)) (now (piece .entry)) ⌝ }
+    ensures { λ r. ⌜ receivedOf r (now (store .exit)) ≡ receives link (state, now (store .entry)) (now (piece .entry)) ⌝ }
 {
     if receiver::is_known(state) {
         if SIZE <= store.len() {
@@ -98,14 +99,5 @@ pub fn receive(state: State, store: &mut [u8], piece: &[u8]) -> Received
 pub fn data(store: &[u8], message: Message) -> &[u8]
     ensures { λ r. ⌜ now r ≡ dataOf (now (store .entry)) message ⌝ }
 {
-    let length = message.length;
-    if store.len() < 6 {
-        return &store[..0];
-    }
-    if length <= store.len() - 6 {
-        let end = 6 + length;
-        &store[6..end]
-    } else {
-        &store[..0]
-    }
+    framing::data_at(store, 6, message.length)
 }

@@ -16,10 +16,10 @@ ghost use lib.ListN.{length, take};
 ghost use Rattle.runs.specs.Runs.{over};
 ghost use Rattle.framing.specs.Receiver.{feed};
 ghost use Rattle.framing.specs.Segment.{eventOf};
-ghost use Rattle.framing.specs.Link.{isEvent, told, stepOn, answered};
-ghost use Rattle.mdu.specs.Rules.{hunting, head, tail, size, enter, finish, cut};
-ghost use Rattle.mdu.specs.Contract.{knownState, phaseOf, front, link, toldOf, answerOf};
-ghost use Rattle.mdu.specs.Steps.{endedWith, goneOn, Answers, Open, ToCome, AtLast, Passes};
+ghost use Rattle.framing.specs.Link.{isEvent, told, stepOn, reported};
+ghost use Rattle.mdu.specs.Rules.{hunting, inHeader, inBody, size, headerFault, enter, finish, onByte};
+ghost use Rattle.mdu.specs.Contract.{knownState, phaseOf, front, link, toldOf, receivedOf};
+ghost use Rattle.mdu.specs.Steps.{endedWith, goneOn, ByRules, Open, ToCome, AtLast, Passes};
 
 // What a byte makes: an event or none, and the state after it.
 struct Stepped {
@@ -38,7 +38,7 @@ pub(crate) fn is_known(state: State) -> bool
     ensures { λ r. ⌜ r ≡ knownState state ⌝ }
 {
     let base = state.base;
-    let length = state.length;
+    let stated = state.length;
     let count = base.count;
     if framing::is_known(base, 2, 1, SIZE) {
         if base.mode == 0 {
@@ -47,8 +47,8 @@ pub(crate) fn is_known(state: State) -> bool
         if count < 6 {
             return 1 <= count;
         }
-        if header::length_ok(length) {
-            count < 8 + length
+        if header::length_ok(stated) {
+            count < 8 + stated
         } else {
             false
         }
@@ -60,7 +60,7 @@ pub(crate) fn is_known(state: State) -> bool
 // Hunting: an E3 opens a frame, any other byte is noise.
 fn hunt(state: State, store: &mut [u8], byte: u8) -> Stepped
     requires { ⌜ (state .base .mode ≡ 0) × (size ≤ length (now store)) ⌝ }
-    ensures stepped { λ r. ⌜ Answers state (cut hunting byte) r ⌝ }
+    ensures stepped { λ r. ⌜ ByRules state (onByte hunting byte) r ⌝ }
     ensures stored { λ r. ⌜ now (store .exit) ≡ over (front hunting byte) (now (store .entry)) ⌝ }
 {
     if byte == 0xE3 {
@@ -97,14 +97,14 @@ fn end(base: framing::State, event: Event) -> Stepped
 }
 
 // One more byte is gathered, and the frame goes on.
-fn go_on(base: framing::State, count: usize, length: usize) -> Stepped
-    ensures { λ r. ⌜ r ≡ goneOn base count length ⌝ }
+fn go_on(base: framing::State, count: usize, stated: usize) -> Stepped
+    ensures { λ r. ⌜ r ≡ goneOn base count stated ⌝ }
 {
     Stepped {
         event: Event::Nothing,
         state: State {
             base: framing::hold(base, 1, count),
-            length: length,
+            length: stated,
         },
     }
 }
@@ -116,34 +116,48 @@ fn joined(high: u8, low: u8) -> usize
     (high as usize) * 256 + (low as usize)
 }
 
+// The number of the first test that a header fails, 0 where it passes all.
+fn header_fault(gathered: &[u8]) -> u8
+    requires { ⌜ 6 ≤ length (now gathered) ⌝ }
+    ensures { λ r. ⌜ r ≡ headerFault (now (gathered .entry)) ⌝ }
+{
+    if gathered[1] != 0x01 {
+        return framing::refusal::WRONG_FIELD;
+    }
+    let address = gathered[4];
+    if address == 0 {
+        return framing::refusal::WRONG_FIELD;
+    }
+    let high = gathered[2];
+    let low = gathered[3];
+    if gathered[5] != header::header_sum(gathered[0], gathered[1], high, low, address) {
+        return framing::refusal::WRONG_CHECK;
+    }
+    if !header::length_ok(joined(high, low)) {
+        return framing::refusal::WRONG_LENGTH;
+    }
+    0
+}
+
 // Byte six: whether a body follows the header.
 fn enter_body(state: State, store: &[u8]) -> Stepped
     requires { ⌜ Open state (now store) ⌝ }
-    ensures { λ r. ⌜ Answers state (enter (take 6 (now (store .entry)))) r ⌝ }
+    ensures { λ r. ⌜ ByRules state (enter (take 6 (now (store .entry)))) r ⌝ }
 {
     let base = state.base;
-    if store[1] != 0x01 {
-        return end(base, Event::Refused(framing::refusal::WRONG_FIELD));
+    let fault = header_fault(&store[..6]);
+    if fault != 0 {
+        return end(base, Event::Refused(fault));
     }
-    if store[4] == 0 {
-        return end(base, Event::Refused(framing::refusal::WRONG_FIELD));
-    }
-    if store[5] != header::header_sum(store[0], store[1], store[2], store[3], store[4]) {
-        return end(base, Event::Refused(framing::refusal::WRONG_CHECK));
-    }
-    let length = joined(store[2], store[3]);
-    if header::length_ok(length) {
-        go_on(base, 6, length)
-    } else {
-        end(base, Event::Refused(framing::refusal::WRONG_LENGTH))
-    }
+    go_on(base, 6, joined(store[2], store[3]))
 }
 
 // An open frame below six bytes: the sixth ends the header.
-fn head_byte(state: State, store: &mut [u8], byte: u8) -> Stepped
+fn header_byte(state: State, store: &mut [u8], byte: u8) -> Stepped
     requires { ⌜ Open state (now store) × (state .base .count < 6) ⌝ }
-    ensures stepped { λ r. ⌜ Answers state (cut (head (take (state .base .count) (now (store .entry)))) byte) r ⌝ }
-    ensures stored { λ r. ⌜ now (store .exit) ≡ over (front (head (take (state .base .count) (now (store .entry)))) byte) (now (store .entry)) ⌝ }
+    ensures stepped { λ r. ⌜ ByRules state (onByte (inHeader (take (state .base .count) (now (store .entry)))) byte) r ⌝ }
+    ensures stored { λ r. ⌜ now (store .exit)
+        ≡ over (front (inHeader (take (state .base .count) (now (store .entry)))) byte) (now (store .entry)) ⌝ }
 {
     let base = state.base;
     let at = base.count;
@@ -175,8 +189,9 @@ fn finish_frame(store: &[u8], stated: usize) -> Event
 // The last byte of a frame.
 fn last_byte(state: State, store: &mut [u8], byte: u8) -> Stepped
     requires { ⌜ Open state (now store) × ToCome (state .length) (state .base .count) × (state .base .count ≡ 7 + state .length) ⌝ }
-    ensures stepped { λ r. ⌜ Answers state (cut (tail (state .length) (take (state .base .count) (now (store .entry)))) byte) r ⌝ }
-    ensures stored { λ r. ⌜ now (store .exit) ≡ over (front (tail (state .length) (take (state .base .count) (now (store .entry)))) byte) (now (store .entry)) ⌝ }
+    ensures stepped { λ r. ⌜ ByRules state (onByte (inBody (state .length) (take (state .base .count) (now (store .entry)))) byte) r ⌝ }
+    ensures stored { λ r. ⌜ now (store .exit)
+        ≡ over (front (inBody (state .length) (take (state .base .count) (now (store .entry)))) byte) (now (store .entry)) ⌝ }
 {
     let base = state.base;
     let at = base.count;
@@ -188,7 +203,7 @@ fn last_byte(state: State, store: &mut [u8], byte: u8) -> Stepped
 // One byte, in any mode; of a body and its check value only the last.
 fn step(state: State, store: &mut [u8], byte: u8) -> Stepped
     requires { ⌜ (knownState state ≡ true) × (size ≤ length (now store)) × AtLast state ⌝ }
-    ensures stepped { λ r. ⌜ Answers state (cut (phaseOf state (now (store .entry))) byte) r ⌝ }
+    ensures stepped { λ r. ⌜ ByRules state (onByte (phaseOf state (now (store .entry))) byte) r ⌝ }
     ensures stored { λ r. ⌜ now (store .exit) ≡ over (front (phaseOf state (now (store .entry))) byte) (now (store .entry)) ⌝ }
 {
     let base = state.base;
@@ -196,7 +211,7 @@ fn step(state: State, store: &mut [u8], byte: u8) -> Stepped
         return hunt(state, store, byte);
     }
     if base.count < 6 {
-        return head_byte(state, store, byte);
+        return header_byte(state, store, byte);
     }
     last_byte(state, store, byte)
 }
@@ -274,7 +289,7 @@ fn advance(state: State, store: &mut [u8], piece: &[u8], from: usize) -> Reached
 // The bytes of a piece, until one makes an event.
 pub(crate) fn scan(state: State, store: &mut [u8], piece: &[u8]) -> Received
     requires { ⌜ (knownState state ≡ true) × (size ≤ length (now store)) ⌝ }
-    ensures { λ r. ⌜ answerOf r (now (store .exit)) ≡ answered link (feed (stepOn link) (state, now (store .entry)) (now (piece .entry))) ⌝ }
+    ensures { λ r. ⌜ receivedOf r (now (store .exit)) ≡ reported link (feed (stepOn link) (state, now (store .entry)) (now (piece .entry))) ⌝ }
 {
     let mut current = state;
     let mut i = 0;

@@ -7,7 +7,7 @@ use Prim.Native.Nat.{ℕ}
 use lib.ListN.{length, take, drop}
 use lib.Seq.{sets}
 use Rattle.framing.specs.Answer.{done, refused}
-use Rattle.packing.specs.Unpacked.{dataOf, wellPacked, unpacked}
+use Rattle.packing.specs.Unpacked.{dataInGroups, wellPacked, unpacked}
 use Rattle.packing.specs.Contract.{storedFirst, unpackedIn}
 
 module _ (store : List ℕ) (from count : ℕ) where
@@ -22,7 +22,7 @@ module _ (store : List ℕ) (from count : ℕ) where
 
 -- what the test says of unpacking
 
-pub well-unpacks : (p : List ℕ) → wellPacked p ≡ true → unpacked p ≡ some (dataOf p)
+pub well-unpacks : (p : List ℕ) → wellPacked p ≡ true → unpacked p ≡ some (dataInGroups p)
 unfolding unpacked
 well-unpacks p w = rw w
 

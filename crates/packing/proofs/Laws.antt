@@ -1,17 +1,17 @@
 -- Packing and unpacking undo each other, and what their results hold.
-use mathlib.Core.Path.{_≡_, refl, sym, ap, _∙_}
+use mathlib.Core.Path.{_≡_, refl, sym, ap, _∙_, subst}
 use mathlib.Core.Bool.{Bool, true, false, cond}
-use mathlib.Core.List.{List, _++_}
+use mathlib.Core.List.{List, [], _∷_, _++_}
 use mathlib.Core.Option.{none, some}
-use Prim.Native.Nat.{ℕ, suc, _+_, _-_, _/_, _≤_, _<_}
+use Prim.Native.Nat.{ℕ, zero, suc, _+_, _-_, _/_, _≤_, _<_, min}
 use native.Mathlib.Omega.{arith}
 use lib.Dec.{lit<}
-use lib.ListN.{length, getD}
+use lib.ListN.{length, getD, drop}
 use Rattle.runs.specs.Runs.{Bytes}
-use Rattle.runs.proofs.Bytes.{bytes-left, bytes-right}
+use Rattle.runs.proofs.Bytes.{bytes-left, bytes-right, bytes-append}
 use Rattle.runs.proofs.Cases.{and-both}
 use Rattle.packing.specs.Packed.{packedGroup, packed}
-use Rattle.packing.specs.Unpacked.{unpackedGroup, dataOf, allSent, wellEnded, wellPacked, unpacked}
+use Rattle.packing.specs.Unpacked.{joined, unpackedGroup, unpackedGroups, dataInGroups, allSent, wellEnded, wellPacked, unpacked}
 use Rattle.packing.proofs.Groups.{First, by-groups}
 use Rattle.packing.proofs.Seven.{allSent-at}
 use Rattle.packing.proofs.Group.{length-group, length-unpackedGroup, group-back}
@@ -20,16 +20,16 @@ use Rattle.packing.proofs.WellPacked.{group-well, well-nil, well-first,
 
 -- ---- there and back
 
-round : (d : List ℕ) → Bytes d → (wellPacked (packed d) ≡ true) × (dataOf (packed d) ≡ d)
+round : (d : List ℕ) → Bytes d → (wellPacked (packed d) ≡ true) × (dataInGroups (packed d) ≡ d)
 round =
-    by-groups 7 (lit< tt) (λ d. Bytes d → (wellPacked (packed d) ≡ true) × (dataOf (packed d) ≡ d))
-    (λ h. (ap wellPacked packed-nil ∙ well-nil, ap dataOf packed-nil ∙ dataOf-nil)) more
+    by-groups 7 (lit< tt) (λ d. Bytes d → (wellPacked (packed d) ≡ true) × (dataInGroups (packed d) ≡ d))
+    (λ h. (ap wellPacked packed-nil ∙ well-nil, ap dataInGroups packed-nil ∙ dataOf-nil)) more
   where
-    more : (g r : List ℕ) → First 7 g r → (Bytes r → (wellPacked (packed r) ≡ true) × (dataOf (packed r) ≡ r))
-        → Bytes (g ++ r) → (wellPacked (packed (g ++ r)) ≡ true) × (dataOf (packed (g ++ r)) ≡ g ++ r)
+    more : (g r : List ℕ) → First 7 g r → (Bytes r → (wellPacked (packed r) ≡ true) × (dataInGroups (packed r) ≡ r))
+        → Bytes (g ++ r) → (wellPacked (packed (g ++ r)) ≡ true) × (dataInGroups (packed (g ++ r)) ≡ g ++ r)
     more g r f ih h =
         let hg : Bytes g = bytes-left g r h in
-        let rest : (wellPacked (packed r) ≡ true) × (dataOf (packed r) ≡ r) = ih (bytes-right g r h) in
+        let rest : (wellPacked (packed r) ≡ true) × (dataInGroups (packed r) ≡ r) = ih (bytes-right g r h) in
         let n : length (packedGroup g) ≡ suc (length g) = length-group g in
         let f8 : First 8 (packedGroup g) (packed r) = omega (arith, length-packed r) in
         let k : length (packedGroup g) - 1 ≡ length g = omega arith in (
@@ -42,23 +42,23 @@ pub unpacked-packed : (d : List ℕ) → Bytes d → unpacked (packed d) ≡ som
 unfolding unpacked
 unpacked-packed d h = rw (round d h .0, round d h .1)
 
-back : (p : List ℕ) → wellPacked p ≡ true → packed (dataOf p) ≡ p
-back = by-groups 8 (lit< tt) (λ p. wellPacked p ≡ true → packed (dataOf p) ≡ p) (λ w. ap packed dataOf-nil ∙ packed-nil) more
+back : (p : List ℕ) → wellPacked p ≡ true → packed (dataInGroups p) ≡ p
+back = by-groups 8 (lit< tt) (λ p. wellPacked p ≡ true → packed (dataInGroups p) ≡ p) (λ w. ap packed dataOf-nil ∙ packed-nil) more
   where
-    more : (q r : List ℕ) → First 8 q r → (wellPacked r ≡ true → packed (dataOf r) ≡ r) → wellPacked (q ++ r) ≡ true → packed (dataOf (q ++ r)) ≡ q ++ r
+    more : (q r : List ℕ) → First 8 q r → (wellPacked r ≡ true → packed (dataInGroups r) ≡ r) → wellPacked (q ++ r) ≡ true → packed (dataInGroups (q ++ r)) ≡ q ++ r
     more q r f ih w =
         let both : (wellPacked q ≡ true) × (wellPacked r ≡ true) = and-both (wellPacked q) (wellPacked r) (sym (well-first q r f) ∙ w) in
         let g : (1 < length q) × (packedGroup (unpackedGroup (length q - 1) q) ≡ q) = well-group q (f .0) (omega arith) (both .0) in
         let k : length (unpackedGroup (length q - 1) q) ≡ length q - 1 = length-unpackedGroup (length q - 1) q (omega arith) in
-        let f7 : First 7 (unpackedGroup (length q - 1) q) (dataOf r) = omega (arith, length-dataOf r) in
-        rw (dataOf-first q r f, packed-first (unpackedGroup (length q - 1) q) (dataOf r) f7, g .1, ih (both .1))
+        let f7 : First 7 (unpackedGroup (length q - 1) q) (dataInGroups r) = omega (arith, length-dataOf r) in
+        rw (dataOf-first q r f, packed-first (unpackedGroup (length q - 1) q) (dataInGroups r) f7, g .1, ih (both .1))
 
 -- what unpacks is well packed, and gives the data of all groups
-unpacked-is : (p d : List ℕ) → unpacked p ≡ some d → (wellPacked p ≡ true) × (dataOf p ≡ d)
+unpacked-is : (p d : List ℕ) → unpacked p ≡ some d → (wellPacked p ≡ true) × (dataInGroups p ≡ d)
 unfolding unpacked
 unpacked-is p d e = go (wellPacked p) refl e
   where
-    go : (b : Bool) → wellPacked p ≡ b → cond b (some (dataOf p)) none ≡ some d → (wellPacked p ≡ true) × (dataOf p ≡ d)
+    go : (b : Bool) → wellPacked p ≡ b → cond b (some (dataInGroups p)) none ≡ some d → (wellPacked p ≡ true) × (dataInGroups p ≡ d)
     go true w u = (w, (cc))
     go false w u = absurd (let z : _≡_ {A = ℕ} 0 1 = cc in omega arith)
 
@@ -81,3 +81,19 @@ packed-sent-at d h = allSent-at (packed d) (packed-sent d h)
 
 pub length-unpacked : (p d : List ℕ) → unpacked p ≡ some d → length d ≡ length p - (length p + 7) / 8
 length-unpacked p d e = ap length (sym (unpacked-is p d e .1)) ∙ length-dataOf p
+
+-- unpacked data are bytes
+joined-bytes : (t : ℕ) (g : List ℕ) → Bytes (joined t g)
+unfolding joined
+joined-bytes t [] i = lit< tt
+joined-bytes t (b ∷ g) zero = omega arith
+joined-bytes t (b ∷ g) (suc i) = joined-bytes t g i
+
+groups-bytes : (n : ℕ) (p : List ℕ) → Bytes (unpackedGroups n p)
+unfolding unpackedGroups unpackedGroup
+groups-bytes zero p = λ i. lit< tt
+groups-bytes (suc n) p = bytes-append (unpackedGroup (min 7 (length p - 1)) p) (unpackedGroups n (drop 8 p)) (joined-bytes _ _) (groups-bytes n (drop 8 p))
+
+pub bytes-unpacked : (p d : List ℕ) → unpacked p ≡ some d → Bytes d
+unfolding dataInGroups
+bytes-unpacked p d e = subst Bytes (unpacked-is p d e .1) (groups-bytes ((length p + 7) / 8) p)

@@ -23,8 +23,8 @@ unpackedGroups zero p = []
 unpackedGroups (suc n) p = unpackedGroup (min 7 (length p - 1)) p ++ unpackedGroups n (drop 8 p)
 
 -- the data bytes of all groups of p, well packed or not
-unfoldable pub dataOf : List ℕ → List ℕ
-dataOf p = unpackedGroups ((length p + 7) / 8) p
+unfoldable pub dataInGroups : List ℕ → List ℕ
+dataInGroups p = unpackedGroups ((length p + 7) / 8) p
 
 -- every byte lies in 1 to 128
 unfoldable pub allSent : List ℕ → Bool
@@ -45,4 +45,4 @@ wellPacked p = allSent p && wellEnded (length p) (getD p (length p - 1) 0)
 
 -- the data that p was packed from, none where p is badly packed
 unfoldable pub unpacked : List ℕ → Option (List ℕ)
-unpacked p = cond (wellPacked p) (some (dataOf p)) none
+unpacked p = cond (wellPacked p) (some (dataInGroups p)) none

@@ -9,7 +9,7 @@ ghost use lib.Seq.{sets};
 ghost use Rattle.framing.specs.Answer.{outcomeOf, storedAt};
 ghost use Rattle.packing.specs.Seven.{sent, isSent, valueOf};
 ghost use Rattle.packing.specs.Packed.{lastPlace, packedGroup, packed, packedLength};
-ghost use Rattle.packing.specs.Unpacked.{unpackedGroup, dataOf, allSent, unusedClear, wellEnded, wellPacked};
+ghost use Rattle.packing.specs.Unpacked.{unpackedGroup, dataInGroups, allSent, unusedClear, wellEnded, wellPacked};
 ghost use Rattle.packing.specs.Contract.{unpackedIn};
 
 // A value as it goes out: 0 as 128, any other as itself.
@@ -184,8 +184,8 @@ fn unpack_group(store: &mut [u8], to: usize, from: usize, k: usize)
 // group is stored no further on than it stood.
 fn unpack_all(store: &mut [u8], from: usize, count: usize) -> usize
     requires { ⌜ from + count ≤ length (now store) ⌝ }
-    ensures counted { λ r. ⌜ r ≡ length (dataOf (take count (drop from (now (store .entry))))) ⌝ }
-    ensures stored { λ r. ⌜ now (store .exit) ≡ sets (now (store .entry)) 0 (dataOf (take count (drop from (now (store .entry))))) ⌝ }
+    ensures counted { λ r. ⌜ r ≡ length (dataInGroups (take count (drop from (now (store .entry))))) ⌝ }
+    ensures stored { λ r. ⌜ now (store .exit) ≡ sets (now (store .entry)) 0 (dataInGroups (take count (drop from (now (store .entry))))) ⌝ }
 {
     let mut n = 0;
     let mut e = 0;

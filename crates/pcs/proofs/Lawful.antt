@@ -7,14 +7,14 @@ use native.Mathlib.Omega.{arith}
 use lib.ListN.{length, take}
 use borrow.Author.Tests.{le-leb}
 use Rattle.runs.proofs.Cases.{by-eqb}
-use Rattle.framing.specs.State.{knownState, stateOf}
+use Rattle.framing.specs.State.{knownState}
 use Rattle.framing.specs.declared.State.{State}
-use Rattle.framing.proofs.States.{shared-next, shared-leaves}
+use Rattle.framing.proofs.States.{stateOf, shared-next, shared-leaves}
 use Rattle.framing.proofs.Lawful.{Lawful}
 use Rattle.pcs.specs.Frame.{frame}
 use Rattle.pcs.specs.Rules.{Phase, hunting, inside, size, gathered, held}
 use Rattle.pcs.specs.Contract.{modeOf, phaseOf, link}
-use Rattle.pcs.proofs.Cut.{reached, takes}
+use Rattle.pcs.proofs.OnByte.{reached, takes}
 use Rattle.pcs.proofs.Readback.{frame-bytes, reads-frame}
 
 known-of : (p : Phase) (n : ℕ) → length (gathered p) ≤ size → knownState 2 1 size (stateOf modeOf gathered held p n) ≡ true

@@ -19,7 +19,7 @@ use Rattle.framing.specs.declared.State.{State}
 use Rattle.framing.proofs.States.{noise-mode, noise-next}
 use Rattle.framing.proofs.Passing.{leads-before, gathers-before}
 use Rattle.pcs.specs.Frame.{Message}
-use Rattle.pcs.specs.Rules.{Phase, inside, size, gathered, held, cut}
+use Rattle.pcs.specs.Rules.{Phase, inside, size, gathered, held, onByte}
 use Rattle.pcs.specs.Contract.{modeOf, frontOf, link}
 use Rattle.pcs.specs.Steps.{opened}
 
@@ -43,7 +43,7 @@ gather-step : (k o z b : ℕ) (store : List ℕ) → k < size → size ≤ lengt
 gather-step k o z b store less room h =
     let g : List ℕ = take k store in
     let not : (m : ℕ) → 253 ≤ m → m ≤ 254 → b ≡ m → ⊥ = λ m l t e. between-not 253 254 b h (omega arith) (omega arith) in
-    let e : cut (inside g) b ≡ (inside (g ++ (b ∷ [])), none) =
+    let e : onByte (inside g) b ≡ (inside (g ++ (b ∷ [])), none) =
     rw (ne-eqb b 253 (not 253 (omega arith) (omega arith)), ne-eqb b 254 (not 254 (omega arith) (omega arith)), lt-ltb (length g) size (omega (arith, length-take-le k store (omega arith)))) in
     ap (after (opened k o z) store) e
     ∙ (λ i. ((opened (more-count store k b (omega arith) i) ((o + 1) % 2 ^ 32) z, sym (more-over store k b (omega arith)) i), none))

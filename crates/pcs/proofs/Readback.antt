@@ -8,14 +8,14 @@ use native.Mathlib.Omega.{arith}
 use lib.Dec.{eqb, lit<}
 use lib.ListN.{length, getD, take, length-append}
 use lib.Seq.{append-snoc, take-at, getD-at}
-use borrow.Author.Tests.{le-ltb, lt-ltb, le-leb, lt-leb, eq-eqb, ne-eqb, eqb-true}
+use borrow.Author.Tests.{lt-ltb, le-leb, lt-leb, eq-eqb, ne-eqb, eqb-true}
 use Rattle.runs.specs.Runs.{Bytes}
 use Rattle.runs.proofs.Bytes.{bytes-append, bytes-one, bytes-more}
 use Rattle.framing.specs.Claims.{AllOf}
 use Rattle.framing.specs.Receiver.{feed}
-use Rattle.framing.specs.Segment.{Segment, accepted, message, step}
+use Rattle.framing.specs.Segment.{Segment, acceptedFrame, message}
 use Rattle.framing.proofs.Feed.{Quiet, quiet-nil, quiet-cons, feed-event}
-use Rattle.framing.proofs.Segments.{step-open, step-accept}
+use Rattle.framing.proofs.Segments.{step, step-open, step-accept}
 use Rattle.framing.proofs.Lawful.{at}
 use Rattle.packing.specs.Seven.{sent}
 use Rattle.packing.specs.Packed.{packed}
@@ -26,8 +26,9 @@ use Rattle.packing.proofs.Laws.{unpacked-packed, packed-sent-at}
 use Rattle.checksum.specs.Sum.{sumOf}
 use Rattle.checksum.proofs.SumRange.{sum-range}
 use Rattle.pcs.specs.Frame.{Message, Typed, plainOk, receiverOk, ok, body, frame}
-use Rattle.pcs.specs.Rules.{hunting, inside, size, stated, packedPart, fieldsOk, unpack, judge, cut}
+use Rattle.pcs.specs.Rules.{hunting, inside, size, stated, packedPart, fieldsOk, faultOf, unpack, judge, onByte}
 use Rattle.pcs.proofs.Allowed.{kind-same, kind-most, plain-most, Sendable, sendable}
+use Rattle.pcs.proofs.Passed.{Passed, no-fault}
 
 -- a byte that is gathered in an open frame
 abbrev Inner : ℕ → Type 0
@@ -60,11 +61,11 @@ inner-bytes (x ∷ xs) h zero = h .0 .0
 inner-bytes (x ∷ xs) h (suc i) = inner-bytes xs (h .1) i
 
 -- inner bytes are gathered, as long as there is room
-gathers : (g xs : List ℕ) (n : ℕ) → AllOf Inner xs → length g + length xs ≤ size → Quiet (step cut) (at (inside g) n) xs (at (inside (g ++ xs)) n)
-gathers g [] n p h = rw append-nil (quiet-nil (step cut) (at (inside g) n))
+gathers : (g xs : List ℕ) (n : ℕ) → AllOf Inner xs → length g + length xs ≤ size → Quiet (step onByte) (at (inside g) n) xs (at (inside (g ++ xs)) n)
+gathers g [] n p h = rw append-nil (quiet-nil (step onByte) (at (inside g) n))
 gathers g (x ∷ xs) n p h =
-    quiet-cons (step cut)
-    (step-open cut (inside g) (inside (g ++ (x ∷ []))) n x (rw (ne-eqb x 253 (p .0 .1), ne-eqb x 254 (p .0 .2), lt-ltb (length g) size (omega arith))))
+    quiet-cons (step onByte)
+    (step-open onByte (inside g) (inside (g ++ (x ∷ []))) n x (rw (ne-eqb x 253 (p .0 .1), ne-eqb x 254 (p .0 .2), lt-ltb (length g) size (omega arith))))
     (rw append-snoc at (gathers (g ++ (x ∷ [])) xs n (p .1) (simp length-append (omega arith))))
 
 -- the frame of a message that may be sent
@@ -155,27 +156,33 @@ module _ (m : Message) (y : Bytes (m .payload)) (s : Sendable m) where
       )
       (kind-same (m .kind) (length (m .payload)) (length (packed (m .payload))) (λ z. omega (arith, length-packed (m .payload))) (s .kind))
 
-  accepts : (w : List ℕ) → judge run w ≡ accepted m
+  -- below 12 no CRC is asked for
+  passes : Passed run
+  unfolding run
+  passes =
+      record {
+        long = omega (arith, run-length);
+        plain = rw (lt-leb 12 (4 + m .kind) (omega (arith, kind-most (m .kind) (length (m .payload)) (s .kind))));
+        checked = sum-last ∙ ap sumOf (sym body-front);
+        fields = fields-pass;
+        present = stated-is ∙ omega (arith, run-length);
+      }
+
+  accepts : (w : List ℕ) → judge run w ≡ acceptedFrame m
   unfolding run
   accepts w =
-      rw (
-        le-ltb (length run) 9 (omega (arith, run-length)),
-        lt-leb 12 (4 + m .kind) (omega (arith, kind-most (m .kind) (length (m .payload)) (s .kind))),
-        eq-eqb (getD run (length run - 1) 0) (sumOf (take (length run - 1) run)) (sum-last ∙ ap sumOf (sym body-front)),
-        fields-pass,
-        eq-eqb (stated run) (length run - 9) (stated-is ∙ omega (arith, run-length)),
-      )
+      rw (eq-eqb (faultOf run) 0 (no-fault run passes))
       (ap (unpack run w) (ap unpacked packed-front ∙ unpacked-packed (m .payload) y) ∙ rw kind-is)
 
   reads-run : (rest : List ℕ) (n : ℕ)
-      → feed (step cut) (at hunting n) (((253 ∷ run) ++ (254 ∷ [])) ++ rest)
+      → feed (step onByte) (at hunting n) (((253 ∷ run) ++ (254 ∷ [])) ++ rest)
       ≡ record { event = some (message m); used = length ((253 ∷ run) ++ (254 ∷ [])); after = at hunting n }
   reads-run rest n =
-      feed-event (step cut) (253 ∷ run) 254 rest quiet
-      (step-accept cut (inside run) hunting n 254 m (ap (λ (x : Segment Message). (hunting, some x)) (accepts _)))
+      feed-event (step onByte) (253 ∷ run) 254 rest quiet
+      (step-accept onByte (inside run) hunting n 254 m (ap (λ (x : Segment Message). (hunting, some x)) (accepts _)))
     where
-      quiet : Quiet (step cut) (at hunting n) (253 ∷ run) (at (inside run) n)
-      quiet = quiet-cons (step cut) refl (gathers [] run n run-inner (omega (arith, run-length, most)))
+      quiet : Quiet (step onByte) (at hunting n) (253 ∷ run) (at (inside run) n)
+      quiet = quiet-cons (step onByte) refl (gathers [] run n run-inner (omega (arith, run-length, most)))
 
   frame-run : frame m ≡ (253 ∷ run) ++ (254 ∷ [])
   unfolding run
@@ -188,7 +195,7 @@ pub frame-bytes : (m : Message) → Typed m → ok m ≡ true → Bytes (frame m
 frame-bytes m t o = subst (λ (w : List ℕ). Bytes w) (sym (frame-run m (t .payload) (sendable m o))) (run-bytes m (t .payload) (sendable m o))
 
 pub reads-frame : (m : Message) (rest : List ℕ) (n : ℕ) → Typed m → ok m ≡ true
-    → feed (step cut) (at hunting n) (frame m ++ rest) ≡ record { event = some (message m); used = length (frame m); after = at hunting n }
+    → feed (step onByte) (at hunting n) (frame m ++ rest) ≡ record { event = some (message m); used = length (frame m); after = at hunting n }
 reads-frame m rest n t o =
-    subst (λ (w : List ℕ). feed (step cut) (at hunting n) (w ++ rest) ≡ record { event = some (message m); used = length w; after = at hunting n })
+    subst (λ (w : List ℕ). feed (step onByte) (at hunting n) (w ++ rest) ≡ record { event = some (message m); used = length w; after = at hunting n })
     (sym (frame-run m (t .payload) (sendable m o))) (reads-run m (t .payload) (sendable m o) rest n)

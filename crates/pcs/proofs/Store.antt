@@ -12,11 +12,11 @@ use Rattle.framing.specs.Segment.{Segment}
 use Rattle.framing.specs.declared.State.{State}
 use Rattle.framing.proofs.States.{count-within}
 use Rattle.pcs.specs.Frame as Frame
-use Rattle.pcs.specs.Rules.{Phase, hunting, size, gathered, held, packedPart, cut}
+use Rattle.pcs.specs.Rules.{Phase, hunting, size, gathered, held, packedPart, onByte}
 use Rattle.pcs.specs.Contract.{modeOf, phaseOf, frontOf}
-use Rattle.pcs.specs.Steps.{Answers}
+use Rattle.pcs.specs.Steps.{ByRules}
 use Rattle.pcs.specs.declared.Stepped.{Stepped}
-use Rattle.pcs.proofs.Cut.{takes}
+use Rattle.pcs.proofs.OnByte.{takes}
 
 module _ (store : List ℕ) (at : ℕ) where
   -- the packed bytes of the first so many of a store
@@ -30,7 +30,7 @@ module _ (store : List ℕ) (at : ℕ) where
       ∙ take-take (at - 9) (at - 8) (drop 8 store) (omega arith))
 
 -- hunting writes nothing
-pub hunting-store : (store : List ℕ) (b : ℕ) → over (frontOf (cut hunting b)) store ≡ store
+pub hunting-store : (store : List ℕ) (b : ℕ) → over (frontOf (onByte hunting b)) store ≡ store
 hunting-store store b = by-eqb (λ (r : Phase × Option (Segment Frame.Message)). over (frontOf r) store ≡ store) b 253 (λ _. refl) (λ _. refl)
 
 -- the count stays within the size
@@ -38,5 +38,5 @@ counted : (s : State) (store : List ℕ) → length (gathered (phaseOf s store))
 counted s store =
     by-eqb (λ (p : Phase). length (gathered p) ≤ s .count) (s .mode) 0 (λ _. omega arith) (λ _. simp length-take (omega arith))
 
-pub next-count : (s : State) (store : List ℕ) (b : ℕ) (r : Stepped) → Answers s (cut (phaseOf s store) b) r → s .count ≤ size → r .state .count ≤ size
-next-count s store b r a h = count-within modeOf gathered held phaseOf cut size counted (λ p b h. takes p b h .good) s (r .state) store b h (a .state)
+pub next-count : (s : State) (store : List ℕ) (b : ℕ) (r : Stepped) → ByRules s (onByte (phaseOf s store) b) r → s .count ≤ size → r .state .count ≤ size
+next-count s store b r a h = count-within modeOf gathered held phaseOf onByte size counted (λ p b h. takes p b h .good) s (r .state) store b h (a .state)

@@ -1,15 +1,16 @@
 -- The rules of the PCS receiver: what each byte does, over the gathered bytes as a list, with no store.
 use Prim.Native.Nat.{ℕ, _+_, _-_, _*_}
-use mathlib.Core.Bool.{Bool, cond, _&&_}
+use mathlib.Core.Bool.{Bool, cond, _&&_, not}
 use mathlib.Core.List.{List, [], _∷_, _++_}
 use mathlib.Core.Option.{Option, none, some}
 use lib.ListN.{length, getD, take, drop}
 use lib.Dec.{eqb, leb, ltb}
-use Rattle.framing.specs.Segment.{Segment, noise, refused, accepted}
+use Rattle.framing.specs.Segment.{Segment, noise, refusedFrame, acceptedFrame}
+use Rattle.framing.specs.Tests.{firstOf}
 use Rattle.packing.specs.Seven.{isSent, valueOf}
 use Rattle.packing.specs.Unpacked.{unpacked}
 use Rattle.checksum.specs.Sum.{sumOf}
-use Rattle.pcs.specs.Frame.{Message, plainOk, receiverOk, kindOk}
+use Rattle.pcs.specs.Frame.{Message, withFields, plainOk, receiverOk, kindOk}
 
 -- the store's size: a header of 8, at most 1,171 packed bytes and the sum
 abbrev pub size : ℕ
@@ -54,40 +55,41 @@ fieldsOk g =
     && (plainOk (getD g 7 0)
     && (leb 4 (getD g 2 0) && (isSent (getD g 4 0) && (isSent (getD g 5 0) && kindOk (getD g 2 0 - 4) (stated g))))))))
 
+-- as many packed bytes are there as stated
+abbrev pub lengthRight : List ℕ → Bool
+lengthRight g = eqb (stated g) (length g - 9)
+
+-- the tests at the end of a frame before its data is unpacked, in their order
+unfoldable pub faultOf : List ℕ → ℕ
+faultOf g =
+    firstOf
+    ((ltb (length g) 9, 6)
+    ∷ (asksCrc g, 11)
+    ∷ (not (sumRight g), 8)
+    ∷ (not (fieldsOk g), 9)
+    ∷ (not (lengthRight g), 10)
+    ∷ [])
+
 -- the message of gathered bytes, with its data
 abbrev pub messageWith : List ℕ → List ℕ → Message
-messageWith g d =
-    record {
-      receiver = getD g 0 0;
-      sender = getD g 1 0;
-      kind = getD g 2 0 - 4;
-      number = getD g 3 0;
-      sender-port = getD g 6 0;
-      receiver-port = getD g 7 0;
-      payload = d;
-    }
+messageWith g d = withFields (getD g 0 0) (getD g 1 0) (getD g 2 0 - 4) (getD g 3 0) (getD g 6 0) (getD g 7 0) d
 
--- 13 where the data is badly packed
+-- the last test: 13 where the data is badly packed
 abbrev pub unpack : List ℕ → List ℕ → Option (List ℕ) → Segment Message
-unpack g wire none = refused 13 wire
-unpack g wire (some d) = accepted (messageWith g d)
+unpack g wire none = refusedFrame 13 wire
+unpack g wire (some d) = acceptedFrame (messageWith g d)
 
--- the end of a frame of these wire bytes: 6, 11, 8, 9, 10 (stated against present), 13, in this order
+-- the end of a frame of these wire bytes
 abbrev pub judge : List ℕ → List ℕ → Segment Message
-judge g wire =
-    cond (ltb (length g) 9) (refused 6 wire)
-    (cond (asksCrc g) (refused 11 wire)
-    (cond (sumRight g)
-    (cond (fieldsOk g) (cond (eqb (stated g) (length g - 9)) (unpack g wire (unpacked (packedPart g))) (refused 10 wire)) (refused 9 wire))
-    (refused 8 wire)))
+judge g wire = cond (eqb (faultOf g) 0) (unpack g wire (unpacked (packedPart g))) (refusedFrame (faultOf g) wire)
 
 -- one more byte is gathered, or 5 where it is one too many
 abbrev pub gather : List ℕ → ℕ → List ℕ → Phase × Option (Segment Message)
-gather g b wire = cond (ltb (length g) size) (inside (g ++ (b ∷ [])), none) (hunting, some (refused 5 wire))
+gather g b wire = cond (ltb (length g) size) (inside (g ++ (b ∷ [])), none) (hunting, some (refusedFrame 5 wire))
 
 -- 253 always starts, with 4 where a frame is open; 254 ends an open frame
-abbrev pub cut : Phase → ℕ → Phase × Option (Segment Message)
-cut hunting b = cond (eqb b 253) (inside [], none) (hunting, some (noise (b ∷ [])))
-cut (inside g) b =
-    cond (eqb b 253) (inside [], some (refused 4 (253 ∷ g)))
+abbrev pub onByte : Phase → ℕ → Phase × Option (Segment Message)
+onByte hunting b = cond (eqb b 253) (inside [], none) (hunting, some (noise (b ∷ [])))
+onByte (inside g) b =
+    cond (eqb b 253) (inside [], some (refusedFrame 4 (253 ∷ g)))
     (cond (eqb b 254) (hunting, some (judge g (253 ∷ g ++ (b ∷ [])))) (gather g b (253 ∷ g ++ (b ∷ []))))

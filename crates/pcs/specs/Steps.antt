@@ -1,66 +1,37 @@
 -- What the private functions answer: the steps of a call.
-use Prim.Native.Nat.{ℕ, _-_, _≤_}
+use Prim.Native.Nat.{ℕ, _≤_}
 use mathlib.Core.Path.{_≡_}
-use mathlib.Core.Bool.{Bool, cond, _&&_}
+use mathlib.Core.Bool.{Bool, _&&_}
 use mathlib.Core.List.{List}
 use mathlib.Core.Option.{Option}
 use lib.ListN.{length}
-use lib.Dec.{eqb, ltb}
 use Rattle.framing.specs.Answer.{Outcome, done, refused}
 use Rattle.framing.specs.Segment.{Segment, eventOf}
 use Rattle.framing.specs.State.{stateAfter}
-use Rattle.framing.specs.Link.{Lent, Told, numbers, number, told}
+use Rattle.framing.specs.Link.{Lent, Told, accepted, told}
+use Rattle.framing.specs.Link as Link
 use Rattle.framing.specs.Passing.{Leads}
 use Rattle.framing.specs.declared.State.{State}
 use Rattle.pcs.specs.Frame.{plainOk, receiverOk}
 use Rattle.pcs.specs.Frame as Frame
-use Rattle.pcs.specs.Rules.{Phase, size, gathered, held, stated, asksCrc, sumRight, fieldsOk}
-use Rattle.pcs.specs.Contract.{modeOf, link, toldOf}
+use Rattle.pcs.specs.Rules.{Phase, size, gathered, held}
+use Rattle.pcs.specs.Contract.{modeOf, numbersWith, link, toldOf}
 use Rattle.pcs.specs.declared.Message.{Message}
 use Rattle.pcs.specs.declared.Stepped.{Stepped}
 use Rattle.framing.specs.declared.Reached.{Reached}
-
--- the message of a struct's numbers with its data
-abbrev pub withData : Message → List ℕ → Frame.Message
-withData m d =
-    record {
-      receiver = m .receiver;
-      sender = m .sender;
-      kind = m .kind;
-      number = m .number;
-      sender-port = m .«sender_port»;
-      receiver-port = m .«receiver_port»;
-      payload = d;
-    }
 
 -- the addresses, the number and the ports are allowed
 abbrev pub plainFieldsOk : Message → Bool
 plainFieldsOk m =
     receiverOk (m .receiver) && (plainOk (m .sender) && (plainOk (m .number) && (plainOk (m .«sender_port») && plainOk (m .«receiver_port»))))
 
--- the first test before unpacking that gathered bytes fail, 0 where they pass all
-unfoldable pub faultOf : List ℕ → ℕ
-faultOf g =
-    cond (ltb (length g) 9) 6
-    (cond (asksCrc g) 11 (cond (sumRight g) (cond (fieldsOk g) (cond (eqb (stated g) (length g - 9)) 0 10) 9) 8))
-
--- what is told of numbers once the data are unpacked, or badly packed
-abbrev pub toldWith : Message → Outcome ℕ → Told Message
-toldWith m (done n) =
-    numbers
-    (record {
-      receiver = m .receiver;
-      sender = m .sender;
-      kind = m .kind;
-      number = m .number;
-      «sender_port» = m .«sender_port»;
-      «receiver_port» = m .«receiver_port»;
-      length = n;
-    })
-toldWith m (refused n) = number n
+-- what is told of a message once its data are unpacked, or badly packed
+abbrev pub toldWith : Frame.Message → Outcome ℕ → Told Message
+toldWith m (done n) = accepted (numbersWith m n)
+toldWith m (refused n) = Link.refused n
 
 -- what is answered of a byte by what the rules give: the phase after it, and the segment that it closes
-pub record Answers (s : State) (c : Phase × Option (Segment Frame.Message)) (r : Stepped) : Type 0 where
+pub record ByRules (s : State) (c : Phase × Option (Segment Frame.Message)) (r : Stepped) : Type 0 where
   pub tells : toldOf (r .event) ≡ told link (eventOf (c .1))
   pub state : r .state ≡ stateAfter modeOf gathered held s (c .0) (c .1)
 

@@ -1,4 +1,4 @@
--- Laws of the decision over the type, and of the tests of a record's head.
+-- Laws of the decision over the type, and of the tests of a record's header.
 use Prim.Native.Nat.{ℕ, _+_, _*_, _≤_, _<_}
 use mathlib.Core.Path.{_≡_, refl, sym, ap, _∙_}
 use mathlib.Core.Bool.{Bool, true, false, false≢true}
@@ -9,9 +9,9 @@ use lib.ListN.{length}
 use lib.Dec.{eqb, lit≤}
 use borrow.Author.Tests.{ltb-true, leb-true, eqb-true, lt-ltb, le-leb, eq-eqb}
 use Rattle.runs.proofs.Cases.{by-test, and-both}
-use Rattle.record.specs.declared.Form.{Form}
-use Rattle.record.specs.declared.Head.{Head}
-use Rattle.record.specs.Form.{form, formOf, sizeOf, signedOf, limitOf, kindOf, addressOf, countOf, allowed, wellFormed, head, headOf}
+use Rattle.record.specs.declared.form.Form.{Form}
+use Rattle.record.specs.declared.form.Header.{Header}
+use Rattle.record.specs.Form.{form, formOf, sizeOf, signedOf, limitOf, kindOf, addressOf, countOf, allowed, wellFormed, header, headerOf}
 use Rattle.record.specs.Helpers.{IsSize, IsSignedSize}
 
 -- a test that cannot be true is false
@@ -47,7 +47,7 @@ pub unknown : 0 < sizeOf 0 → ⊥
 unfolding formOf
 unknown l = omega arith
 
--- the tests of a head, as facts
+-- the tests of a header, as facts
 pub record Allowed (kind address count : ℕ) : Type 0 where
   pub known : 0 < sizeOf kind
   pub some : 0 < count
@@ -86,37 +86,37 @@ pub is-formed : (r : List ℕ) → Formed r → wellFormed r ≡ true
 unfolding wellFormed
 is-formed r f = simp (le-leb _ _ (f .room), is-allowed _ _ _ (f .allows), eq-eqb _ _ (f .whole))
 
--- ---- the head that is answered
-pub head-none : (r : List ℕ) → (Formed r → ⊥) → head 0 0 ≡ headOf r
-unfolding headOf
-head-none r n = rw (is-no (wellFormed r) (λ e. n (formed r e)))
+-- ---- the header that is answered
+pub header-none : (r : List ℕ) → (Formed r → ⊥) → header 0 0 ≡ headerOf r
+unfolding headerOf
+header-none r n = rw (is-no (wellFormed r) (λ e. n (formed r e)))
 
-pub head-formed : (r : List ℕ) → Formed r → head (kindOf r) (countOf r) ≡ headOf r
-unfolding headOf
-head-formed r f = rw (is-formed r f)
+pub header-formed : (r : List ℕ) → Formed r → header (kindOf r) (countOf r) ≡ headerOf r
+unfolding headerOf
+header-formed r f = rw (is-formed r f)
 
--- what is known where a head has a type: the record is well formed, and k, g and n are its type, that type's form, and its count
+-- what is known where a header has a type: the record is well formed, and k, g and n are its type, that type's form, and its count
 pub record Found (r : List ℕ) (k : ℕ) (g : Form) (n : ℕ) : Type 0 where
   pub good : wellFormed r ≡ true
   pub kind-is : k ≡ kindOf r
   pub form-is : g ≡ formOf (kindOf r)
   pub count-is : n ≡ countOf r
 
-pub head-found : (r : List ℕ) (h : Head) (g : Form) → h ≡ headOf r → (h .kind ≡ 0 → ⊥) → g ≡ formOf (h .kind) → Found r (h .kind) g (h .count)
-unfolding headOf
-head-found r h g e n q = go (wellFormed r) refl
+pub header-found : (r : List ℕ) (h : Header) (g : Form) → h ≡ headerOf r → (h .kind ≡ 0 → ⊥) → g ≡ formOf (h .kind) → Found r (h .kind) g (h .count)
+unfolding headerOf
+header-found r h g e n q = go (wellFormed r) refl
   where
     go : (t : Bool) → wellFormed r ≡ t → Found r (h .kind) g (h .count)
     go true t =
-        let is : h ≡ head (kindOf r) (countOf r) = rw t at e in
+        let is : h ≡ header (kindOf r) (countOf r) = rw t at e in
         record { good = t; kind-is = ap (λ x. x .kind) is; form-is = q ∙ ap (λ x. formOf (x .kind)) is; count-is = ap (λ x. x .count) is }
-    go false t = let is : h ≡ head 0 0 = rw t at e in absurd (n (ap (λ x. x .kind) is))
+    go false t = let is : h ≡ header 0 0 = rw t at e in absurd (n (ap (λ x. x .kind) is))
 
-pub head-lost : (r : List ℕ) (h : Head) → h ≡ headOf r → h .kind ≡ 0 → wellFormed r ≡ false
-unfolding headOf
-head-lost r h e z =
+pub header-lost : (r : List ℕ) (h : Header) → h ≡ headerOf r → h .kind ≡ 0 → wellFormed r ≡ false
+unfolding headerOf
+header-lost r h e z =
     is-no (wellFormed r) (λ t.
-    let is : h ≡ head (kindOf r) (countOf r) = rw t at e in
+    let is : h ≡ header (kindOf r) (countOf r) = rw t at e in
     let k : kindOf r ≡ 0 = sym (ap (λ x. x .kind) is) ∙ z in
     unknown (rw k at (formed r t .allows .known)))
 
@@ -130,7 +130,7 @@ module _ {r : List ℕ} {k : ℕ} {g : Form} {n : ℕ} (f : Found r k g n) where
   pub found-small : g .size ≤ 4
   found-small = rw size-is (size-le (kindOf r))
 
-  -- the elements stand behind the head
+  -- the elements stand behind the header
   pub found-whole : length r ≡ 5 + g .size * n
   found-whole = rw (size-is, f .count-is) (formed r (f .good) .whole)
 

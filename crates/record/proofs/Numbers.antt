@@ -10,7 +10,7 @@ use lib.ListN.{length, getD, take, drop, length-append, length-take, length-drop
 use lib.Seq.{length-take-le, take-at, drop-at, drop-drop}
 use borrow.Author.Tests.{ltb-true, lt-ltb}
 use Rattle.runs.specs.Runs.{Bytes, each}
-use Rattle.runs.specs.Number.{number, bytesOf}
+use Rattle.runs.specs.Number.{littleEndian, bytesOf}
 use Rattle.runs.proofs.Bytes.{bytes-drop, bytes-take}
 use Rattle.runs.proofs.Cases.{and-both}
 use Rattle.runs.proofs.Number.{number-lt, length-bytesOf, number-bytesOf, bytesOf-number}
@@ -20,7 +20,7 @@ use Rattle.record.specs.Numbers.{numbers, numberAt, bytesOfAll, every}
 abbrev pub fits : ℕ → ℕ → Bool
 fits size n = ltb n (256 ^ size)
 
-pub bytesOf-sized : (size : ℕ) (bs : List ℕ) → Bytes bs → length bs ≡ size → bytesOf size (number bs) ≡ bs
+pub bytesOf-sized : (size : ℕ) (bs : List ℕ) → Bytes bs → length bs ≡ size → bytesOf size (littleEndian bs) ≡ bs
 bytesOf-sized size bs h l = rw l at (bytesOf-number bs h)
 
 pub length-numbers : (size k : ℕ) (bs : List ℕ) → length (numbers size k bs) ≡ k
@@ -61,7 +61,7 @@ bytesOfAll-numbers size zero bs h l = empty bs (l ∙ mul-zero size)
 bytesOfAll-numbers size (suc k) bs h l =
     let m : length bs ≡ size * k + size = l ∙ mul-suc size k in
     let t : length (take size bs) ≡ size = length-take-le size bs (omega arith) in
-    let first : bytesOf size (number (take size bs)) ≡ take size bs =
+    let first : bytesOf size (littleEndian (take size bs)) ≡ take size bs =
     bytesOf-sized size (take size bs) (bytes-take size bs h) t in
     let rest : bytesOfAll size (numbers size k (drop size bs)) ≡ drop size bs =
     bytesOfAll-numbers size k (drop size bs) (bytes-drop size bs h) (rw length-drop (omega arith)) in

@@ -10,23 +10,23 @@ use lib.ListN.{length, getD, take, drop, getElem?, length-append, length-map, le
 use lib.Seq.{sets, take-at, drop-at, drop-drop}
 use borrow.Author.Tests.{le-leb, lt-ltb}
 use Rattle.runs.specs.Runs.{Bytes, over}
-use Rattle.runs.specs.Number.{number, bytesOf}
+use Rattle.runs.specs.Number.{littleEndian, bytesOf}
 use Rattle.runs.proofs.Bytes.{bytes-drop, bytes-take}
 use Rattle.runs.proofs.Cases.{and-both}
 use Rattle.runs.proofs.Number.{number-bytesOf, length-bytesOf}
 use Rattle.runs.proofs.Run.{part-sets}
 use Rattle.framing.specs.Answer.{done}
 use Rattle.framing.proofs.Stored.{stored-done}
-use Rattle.record.specs.Numbers.{numbers, bytesOfAll, every}
+use Rattle.record.specs.Numbers.{numbers, every}
 use Rattle.record.specs.Form.{sizeOf, signedOf, kindOf, addressOf, countOf, allowed, wellFormed}
-use Rattle.record.specs.Fares.{Signedness, unsigned, signed, same, faresOf, fareAt, writable, recordBytes}
+use Rattle.record.specs.Fares.{Signedness, unsignedFares, signedFares, same, faresOf, fareAt, writable, elements, recordBytes}
 use Rattle.record.specs.Answers.{copying, reading, writing}
 use Rattle.record.specs.Claims.{accepted, Writes, written, WrittenCopiesBack, WrittenElementBack, AcceptedWritten, AcceptedSame, Claims}
 use Rattle.record.proofs.Every.{every-map, map-back}
 use Rattle.record.proofs.Numbers.{fits, bytesOf-sized, length-numbers, numbers-bytesOfAll, bytesOfAll-numbers, every-numbers}
 use Rattle.record.proofs.Forms.{Allowed, allowed-facts, is-allowed, limit-le, Formed, formed, is-formed}
 use Rattle.record.proofs.Loops.{fare-at}
-use Rattle.record.proofs.Signed.{Lawful, Sound, unsigned-sound, signed-sound}
+use Rattle.record.proofs.Sound.{Lawful, Sound, unsigned-sound, signed-sound}
 use Rattle.record.proofs.Writing.{length-record}
 
 -- an element that is there
@@ -50,13 +50,13 @@ module _ {A : Type 0} (F : Signedness A) where
     abbrev sent : List ℕ
     sent = recordBytes F kind address l
 
-    abbrev elements : List ℕ
-    elements = bytesOfAll (sizeOf kind) (map (F .numberOf (sizeOf kind)) l)
+    abbrev sent-elements : List ℕ
+    sent-elements = elements F (sizeOf kind) l
 
-    tests : (same (F .sign) (signedOf kind) ≡ true) × ((allowed kind address (length l) ≡ true) × (every (F .holds (sizeOf kind)) l ≡ true))
+    tests : (same (F .signed) (signedOf kind) ≡ true) × ((allowed kind address (length l) ≡ true) × (every (F .holds (sizeOf kind)) l ≡ true))
     unfolding writable
     tests =
-        let h = and-both (same (F .sign) (signedOf kind)) (allowed kind address (length l) && every (F .holds (sizeOf kind)) l) w in
+        let h = and-both (same (F .signed) (signedOf kind)) (allowed kind address (length l) && every (F .holds (sizeOf kind)) l) w in
         (h .0, and-both (allowed kind address (length l)) (every (F .holds (sizeOf kind)) l) (h .1))
 
     facts : Allowed kind address (length l)
@@ -69,22 +69,22 @@ module _ {A : Type 0} (F : Signedness A) where
     found-address : addressOf sent ≡ address
     found-address =
         let small : address < 65536 = omega (arith, facts, limit-le kind) in
-        let cut : drop 1 sent ≡ bytesOf 2 address ++ (bytesOf 2 (length l) ++ elements) = append-assoc (bytesOf 2 address) (bytesOf 2 (length l)) elements in
-        ap (λ (b : List ℕ). number (take 2 b)) cut
-        ∙ ap number (take-at (bytesOf 2 address) (bytesOf 2 (length l) ++ elements) 2 (length-bytesOf 2 address))
+        let cut : drop 1 sent ≡ bytesOf 2 address ++ (bytesOf 2 (length l) ++ sent-elements) = append-assoc (bytesOf 2 address) (bytesOf 2 (length l)) sent-elements in
+        ap (λ (b : List ℕ). littleEndian (take 2 b)) cut
+        ∙ ap littleEndian (take-at (bytesOf 2 address) (bytesOf 2 (length l) ++ sent-elements) 2 (length-bytesOf 2 address))
         ∙ number-bytesOf 2 address small
 
     found-count : countOf sent ≡ length l
     found-count =
         let few : length l < 65536 = omega (arith, facts, limit-le kind) in
-        let cut : drop 3 sent ≡ bytesOf 2 (length l) ++ elements =
-        ap (λ (b : List ℕ). drop 2 b) (append-assoc (bytesOf 2 address) (bytesOf 2 (length l)) elements) ∙ drop-at (bytesOf 2 address) (bytesOf 2 (length l) ++ elements) 2 (length-bytesOf 2 address) in
-        ap (λ (b : List ℕ). number (take 2 b)) cut
-        ∙ ap number (take-at (bytesOf 2 (length l)) elements 2 (length-bytesOf 2 (length l)))
+        let cut : drop 3 sent ≡ bytesOf 2 (length l) ++ sent-elements =
+        ap (λ (b : List ℕ). drop 2 b) (append-assoc (bytesOf 2 address) (bytesOf 2 (length l)) sent-elements) ∙ drop-at (bytesOf 2 address) (bytesOf 2 (length l) ++ sent-elements) 2 (length-bytesOf 2 address) in
+        ap (λ (b : List ℕ). littleEndian (take 2 b)) cut
+        ∙ ap littleEndian (take-at (bytesOf 2 (length l)) sent-elements 2 (length-bytesOf 2 (length l)))
         ∙ number-bytesOf 2 (length l) few
 
-    found-elements : drop 5 sent ≡ elements
-    found-elements = drop-at (bytesOf 2 address ++ bytesOf 2 (length l)) elements 4 (simp (length-append, length-bytesOf))
+    found-elements : drop 5 sent ≡ sent-elements
+    found-elements = drop-at (bytesOf 2 address ++ bytesOf 2 (length l)) sent-elements 4 (simp (length-append, length-bytesOf))
 
     written-formed : wellFormed sent ≡ true
     written-formed =
@@ -97,7 +97,7 @@ module _ {A : Type 0} (F : Signedness A) where
     written-fares : faresOf F sent ≡ l
     written-fares =
         let ns = map (F .numberOf (sizeOf kind)) l in
-        let e : numbers (sizeOf kind) (length ns) elements ≡ ns =
+        let e : numbers (sizeOf kind) (length ns) sent-elements ≡ ns =
         numbers-bytesOfAll (sizeOf kind) ns (every-map (F .holds (sizeOf kind)) (F .numberOf (sizeOf kind)) (fits (sizeOf kind)) (law .below) l (tests .1 .1)) in
         ap₂ (λ n bs. map (F .fareOf (sizeOf kind)) (numbers (sizeOf kind) n bs)) (found-count ∙ sym (length-map l (F .numberOf (sizeOf kind)))) found-elements
         ∙ ap (λ (m : List ℕ). map (F .fareOf (sizeOf kind)) m) e
@@ -113,7 +113,7 @@ module _ {A : Type 0} (F : Signedness A) where
         let h = there l i a (F .fareOf (sizeOf kind) 0) q in
         let m : i < countOf sent = rw found-count (h .0) in
         let e : fareAt F sent i ≡ a =
-        ap (λ (bs : List ℕ). F .fareOf (sizeOf kind) (number (take (sizeOf kind) bs))) (drop-drop (sizeOf kind * i) 5 sent)
+        ap (λ (bs : List ℕ). F .fareOf (sizeOf kind) (littleEndian (take (sizeOf kind) bs))) (drop-drop (sizeOf kind * i) 5 sent)
         ∙ sym (fare-at F sent (sizeOf kind) (countOf sent) i m)
         ∙ ap (λ (m : List A). getD m i (F .fareOf (sizeOf kind) 0)) written-fares
         ∙ h .1 in
@@ -121,8 +121,8 @@ module _ {A : Type 0} (F : Signedness A) where
 
   -- ---- a record that is accepted
   module _ (sound : Sound F) (r : List ℕ) (bytes : Bytes r) (a : accepted F r ≡ true) where
-    good : (wellFormed r ≡ true) × (same (F .sign) (signedOf (kindOf r)) ≡ true)
-    good = and-both (wellFormed r) (same (F .sign) (signedOf (kindOf r))) a
+    good : (wellFormed r ≡ true) × (same (F .signed) (signedOf (kindOf r)) ≡ true)
+    good = and-both (wellFormed r) (same (F .signed) (signedOf (kindOf r))) a
 
     shape : Formed r
     shape = formed r (good .0)
@@ -151,7 +151,7 @@ module _ {A : Type 0} (F : Signedness A) where
 
     accepted-bytes : recordBytes F (kindOf r) (addressOf r) (faresOf F r) ≡ r
     accepted-bytes =
-        let two : (at : ℕ) → at + 2 ≤ 5 → bytesOf 2 (number (take 2 (drop at r))) ≡ take 2 (drop at r) =
+        let two : (at : ℕ) → at + 2 ≤ 5 → bytesOf 2 (littleEndian (take 2 (drop at r))) ≡ take 2 (drop at r) =
         λ at h. bytesOf-sized 2 (take 2 (drop at r)) (bytes-take 2 (drop at r) (bytes-drop at r bytes)) (rw (length-take, length-drop) (omega (arith, shape .room))) in
         rw (
           fares-count,
@@ -195,20 +195,20 @@ module _ {A : Type 0} (F : Signedness A) where
   accepted-same sound r s br bs ar as' k a f =
       sym (accepted-bytes sound r br ar) ∙ rw (f, a, k) (accepted-bytes sound s bs as')
 
-pub unsigned-claims : Claims unsigned
+pub unsigned-claims : Claims unsignedFares
 unsigned-claims =
     record {
-      copies-back = written-copies-back unsigned unsigned-sound;
-      element-back = written-element-back unsigned unsigned-sound;
-      exact = accepted-written unsigned unsigned-sound;
-      unique = accepted-same unsigned unsigned-sound;
+      copies-back = written-copies-back unsignedFares unsigned-sound;
+      element-back = written-element-back unsignedFares unsigned-sound;
+      exact = accepted-written unsignedFares unsigned-sound;
+      unique = accepted-same unsignedFares unsigned-sound;
     }
 
-pub signed-claims : Claims signed
+pub signed-claims : Claims signedFares
 signed-claims =
     record {
-      copies-back = written-copies-back signed signed-sound;
-      element-back = written-element-back signed signed-sound;
-      exact = accepted-written signed signed-sound;
-      unique = accepted-same signed signed-sound;
+      copies-back = written-copies-back signedFares signed-sound;
+      element-back = written-element-back signedFares signed-sound;
+      exact = accepted-written signedFares signed-sound;
+      unique = accepted-same signedFares signed-sound;
     }

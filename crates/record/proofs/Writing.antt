@@ -2,7 +2,7 @@
 use Prim.Native.Nat.{ℕ, _+_, _*_, _≤_, _<_}
 use mathlib.Core.Path.{_≡_, refl, sym, ap, _∙_}
 use mathlib.Core.Bool.{Bool, true, false, _&&_}
-use mathlib.Core.List.{List, _∷_, _++_, map}
+use mathlib.Core.List.{List, _∷_, _++_}
 use native.Mathlib.Omega.{arith}
 use lib.ListN.{length, length-append, length-map}
 use lib.Seq.{sets}
@@ -11,10 +11,10 @@ use Rattle.runs.proofs.Number.{length-bytesOf}
 use Rattle.runs.proofs.Run.{sets-append}
 use Rattle.framing.specs.Answer.{done, refused}
 use Rattle.framing.proofs.Stored.{stored-done, stored-refused}
-use Rattle.record.specs.declared.Form.{Form}
-use Rattle.record.specs.Numbers.{bytesOfAll, every}
+use Rattle.record.specs.declared.form.Form.{Form}
+use Rattle.record.specs.Numbers.{every}
 use Rattle.record.specs.Form.{formOf, sizeOf, allowed}
-use Rattle.record.specs.Fares.{Signedness, same, writable, recordBytes}
+use Rattle.record.specs.Fares.{Signedness, same, writable, elements, recordBytes}
 use Rattle.record.specs.Answers.{writing}
 use Rattle.record.specs.Helpers.{IsSize, IsSignedSize}
 use Rattle.record.proofs.Numbers.{length-bytesOfAll}
@@ -30,7 +30,7 @@ module _ {A : Type 0} (F : Signedness A) (kind address : ℕ) (l : List A) where
 
   -- the three tests of what may be sent, by the form of the type
   module _ {g : Form} (is : g ≡ formOf kind) (out : List ℕ) where
-    pub write-other : same (F .sign) (g .signed) ≡ false → (refused 3, out) ≡ writing F kind address l out
+    pub write-other : same (F .signed) (g .signed) ≡ false → (refused 3, out) ≡ writing F kind address l out
     unfolding writing writable
     write-other e = rw (rw (ap (λ x. x .signed) is) at e)
 
@@ -45,7 +45,7 @@ module _ {A : Type 0} (F : Signedness A) (kind address : ℕ) (l : List A) where
   -- all three are passed
   pub record Sendable (g : Form) : Type 0 where
     pub form-is : g ≡ formOf kind
-    pub sign : same (F .sign) (g .signed) ≡ true
+    pub sign : same (F .signed) (g .signed) ≡ true
     pub allows : allowed kind address (length l) ≡ true
     pub held : every (F .holds (g .size)) l ≡ true
 
@@ -71,14 +71,14 @@ module _ {A : Type 0} (F : Signedness A) (kind address : ℕ) (l : List A) where
     write-short out m = rw is-writable (sym (stored-refused (recordBytes F kind address l) out 0 (omega (arith, whole-is))))
 
     pub write-done : (out after : List ℕ) → 5 + g .size * length l ≤ length out
-        → after ≡ sets (sets out 0 ((kind ∷ bytesOf 2 address) ++ bytesOf 2 (length l))) 5 (bytesOfAll (g .size) (map (F .numberOf (g .size)) l))
+        → after ≡ sets (sets out 0 ((kind ∷ bytesOf 2 address) ++ bytesOf 2 (length l))) 5 (elements F (g .size) l)
         → (done (5 + g .size * length l), after) ≡ writing F kind address l out
     unfolding writing
     write-done out after m e =
-        let head = (kind ∷ bytesOf 2 address) ++ bytesOf 2 (length l) in
-        let five : 0 + length head ≡ 5 = simp (length-append, length-bytesOf) in
+        let header = (kind ∷ bytesOf 2 address) ++ bytesOf 2 (length l) in
+        let five : 0 + length header ≡ 5 = simp (length-append, length-bytesOf) in
         let laid : after ≡ sets out 0 (recordBytes F kind address l) =
-        (rw size-is at e) ∙ sym (rw five at (sets-append head (bytesOfAll (sizeOf kind) (map (F .numberOf (sizeOf kind)) l)) out 0)) in
+        (rw size-is at e) ∙ sym (rw five at (sets-append header (elements F (sizeOf kind) l) out 0)) in
         rw (is-writable, whole-is, laid) (sym (stored-done (recordBytes F kind address l) out 0 (omega (arith, whole-is))))
 
 -- the size that a private function asks for

@@ -8,7 +8,7 @@ use lib.IntN.{ℤ}
 use Rattle.runs.specs.Runs.{over}
 use Rattle.framing.specs.Answer.{Outcome, done, refused, storedAt}
 use Rattle.record.specs.Form.{signedOf, kindOf, countOf, wellFormed}
-use Rattle.record.specs.Fares.{Signedness, unsigned, signed, same, faresOf, fareAt, writable, recordBytes}
+use Rattle.record.specs.Fares.{Signedness, unsignedFares, signedFares, same, faresOf, fareAt, writable, recordBytes}
 use Rattle.record.specs.declared.Element.{Element}
 use Rattle.record.specs.declared.Element.the-variants as element
 use Rattle.record.specs.declared.UnsignedElement.{UnsignedElement}
@@ -21,7 +21,7 @@ module _ {A : Type 0} (F : Signedness A) where
   unfoldable pub copying : List ℕ → List A → Outcome ℕ × List A
   copying r out =
       cond (wellFormed r)
-      (cond (same (F .sign) (signedOf (kindOf r)))
+      (cond (same (F .signed) (signedOf (kindOf r)))
       (cond (leb (countOf r) (length out)) (done (countOf r), over (faresOf F r) out) (refused 2, out))
       (refused 17, out))
       (refused 16, out)
@@ -30,7 +30,7 @@ module _ {A : Type 0} (F : Signedness A) where
   unfoldable pub reading : List ℕ → ℕ → Outcome A
   reading r i =
       cond (wellFormed r)
-      (cond (same (F .sign) (signedOf (kindOf r))) (cond (ltb i (countOf r)) (done (fareAt F r i)) (refused 18)) (refused 17))
+      (cond (same (F .signed) (signedOf (kindOf r))) (cond (ltb i (countOf r)) (done (fareAt F r i)) (refused 18)) (refused 17))
       (refused 16)
 
   -- writing: 3, 2; else the length, and the record at the start of the memory
@@ -69,7 +69,7 @@ outcomesOf e = (askedUnsigned e, askedSigned e)
 
 -- one element, asked for as unsigned and as signed
 abbrev pub elementOf : List ℕ → ℕ → Outcome ℕ × Outcome ℤ
-elementOf r i = (reading unsigned r i, reading signed r i)
+elementOf r i = (reading unsignedFares r i, reading signedFares r i)
 
 -- a payload is a well-formed record of this type and count
 unfoldable pub isRecordOf : List ℕ → ℕ → ℕ → Bool

@@ -15,7 +15,7 @@ use Rattle.record.specs.Answers.{copying, reading, writing}
 module _ {A : Type 0} (F : Signedness A) where
   -- a record is accepted: neither 16 nor 17
   abbrev pub accepted : List ℕ → Bool
-  accepted r = wellFormed r && same (F .sign) (signedOf (kindOf r))
+  accepted r = wellFormed r && same (F .signed) (signedOf (kindOf r))
 
   -- fares that may be written, and memory that holds their record
   abbrev pub Writes : ℕ → ℕ → List A → List ℕ → Type 0
@@ -36,14 +36,15 @@ module _ {A : Type 0} (F : Signedness A) where
   -- each fare reads back by its number
   abbrev pub WrittenElementBack : Type 0
   WrittenElementBack =
-      (kind address : ℕ) (fares : List A) (memory : List ℕ) (i : ℕ) (fare : A) → Writes kind address fares memory → getElem? fares i ≡ some fare
-      → reading F (written kind address fares memory) i ≡ done fare
+      (kind address : ℕ) (fares : List A) (memory : List ℕ) (i : ℕ) (fare : A) → Writes kind address fares memory
+      → getElem? fares i ≡ some fare → reading F (written kind address fares memory) i ≡ done fare
 
   -- what is accepted is exactly what the writer makes of its type, address and elements
   abbrev pub AcceptedWritten : Type 0
   AcceptedWritten =
       (r : List ℕ) → Bytes r
-      → (accepted r ≡ true) ↔ ((writable F (kindOf r) (addressOf r) (faresOf F r) ≡ true) × (recordBytes F (kindOf r) (addressOf r) (faresOf F r) ≡ r))
+      → (accepted r ≡ true)
+      ↔ ((writable F (kindOf r) (addressOf r) (faresOf F r) ≡ true) × (recordBytes F (kindOf r) (addressOf r) (faresOf F r) ≡ r))
 
   -- two accepted records with the same type, address and elements are the same bytes
   abbrev pub AcceptedSame : Type 0

@@ -4,16 +4,16 @@ use mathlib.Core.List.{List, [], _∷_}
 use mathlib.Core.Bool.{Bool, true, _&&_}
 use lib.ListN.{take, drop}
 use Rattle.runs.specs.Runs.{each}
-use Rattle.runs.specs.Number.{number, bytesOf}
+use Rattle.runs.specs.Number.{littleEndian, bytesOf}
 
 -- the first count numbers of size bytes each
 unfoldable pub numbers : ℕ → ℕ → List ℕ → List ℕ
 numbers size zero bs = []
-numbers size (suc count) bs = number (take size bs) ∷ numbers size count (drop size bs)
+numbers size (suc count) bs = littleEndian (take size bs) ∷ numbers size count (drop size bs)
 
 -- the number at an index
 abbrev pub numberAt : ℕ → List ℕ → ℕ → ℕ
-numberAt size bs i = number (take size (drop (size * i) bs))
+numberAt size bs i = littleEndian (take size (drop (size * i) bs))
 
 -- numbers as bytes, size bytes each
 abbrev pub bytesOfAll : ℕ → List ℕ → List ℕ

@@ -10,12 +10,12 @@ use lib.Dec.{lit<}
 use lib.ListN.{length, getD, take, drop, set, length-take, length-drop, drop-of-length-le}
 use lib.Seq.{drop-cons, drop-length, getD-take, getD-drop, sets, set-out}
 use Rattle.runs.specs.Runs.{Bytes}
-use Rattle.runs.specs.Number.{number, bytesOf}
+use Rattle.runs.specs.Number.{littleEndian, bytesOf}
 use Rattle.runs.proofs.Bytes.{bytes-take, bytes-drop}
 use Rattle.runs.proofs.Run.{sets-over}
 
-pub number-lt : (m : ℕ) (bs : List ℕ) → Bytes bs → length bs ≤ m → number bs < 256 ^ m
-unfolding number
+pub number-lt : (m : ℕ) (bs : List ℕ) → Bytes bs → length bs ≤ m → littleEndian bs < 256 ^ m
+unfolding littleEndian
 number-lt m [] h l = one-le-pow m 256 (lit< tt)
 number-lt zero (b ∷ bs) h l = absurd (omega arith)
 number-lt (suc m) (b ∷ bs) h l = rw pow-suc (digits-lt (number-lt m bs (λ i. h (suc i)) (omega arith)) (h zero))
@@ -31,17 +31,17 @@ bytes-bytesOf zero n i = omega arith
 bytes-bytesOf (suc size) n zero = omega arith
 bytes-bytesOf (suc size) n (suc i) = bytes-bytesOf size (n / 256) i
 
-pub number-bytesOf : (size n : ℕ) → n < 256 ^ size → number (bytesOf size n) ≡ n
-unfolding number bytesOf
+pub number-bytesOf : (size n : ℕ) → n < 256 ^ size → littleEndian (bytesOf size n) ≡ n
+unfolding littleEndian bytesOf
 number-bytesOf zero n l = let h : n < 1 = rw pow-zero at l in omega arith
 number-bytesOf (suc size) n l =
     rw (number-bytesOf size (n / 256) (div-lt-iff-lt-mul (lit< tt) .1 (rw pow-suc at l))) (div-add-mod' n 256)
 
-pub bytesOf-number : (bs : List ℕ) → Bytes bs → bytesOf (length bs) (number bs) ≡ bs
-unfolding number bytesOf
+pub bytesOf-number : (bs : List ℕ) → Bytes bs → bytesOf (length bs) (littleEndian bs) ≡ bs
+unfolding littleEndian bytesOf
 bytesOf-number [] h = refl
 bytesOf-number (b ∷ bs) h =
-    rw (digits-mod (number bs) {m = 256} {r = b} (h zero), digits-div (number bs) {m = 256} {r = b} (h zero))
+    rw (digits-mod (littleEndian bs) {m = 256} {r = b} (h zero), digits-div (littleEndian bs) {m = 256} {r = b} (h zero))
     (ap (λ l. b ∷ l) (bytesOf-number bs (λ i. h (suc i))))
 
 -- ---- reading, from the last byte down: the at most m bytes of s from a place
@@ -52,26 +52,26 @@ module _ (s : List ℕ) (at m : ℕ) where
   pub part-length : length part ≡ min m (length s - at)
   part-length = simp (length-take, length-drop)
 
-  pub part-start : number (drop (length part) part) ≡ 0
-  unfolding number
+  pub part-start : littleEndian (drop (length part) part) ≡ 0
+  unfolding littleEndian
   part-start = rw drop-length
 
-  pub part-step : (k : ℕ) → 0 < k → k ≤ length part → number (drop k part) * 256 + getD s (at + (k - 1)) 0 ≡ number (drop (k - 1) part)
-  unfolding number
+  pub part-step : (k : ℕ) → 0 < k → k ≤ length part → littleEndian (drop k part) * 256 + getD s (at + (k - 1)) 0 ≡ littleEndian (drop (k - 1) part)
+  unfolding littleEndian
   part-step zero l h = absurd (omega arith)
   part-step (suc k) l h =
       let e : suc k - 1 ≡ k = omega arith in
       let below : k < m = omega (arith, part-length) in
       rw (e, drop-cons part k 0 h, getD-take m (drop at s) k 0 below, getD-drop at s k 0)
 
-  pub part-lt : (k j : ℕ) → Bytes s → m ≤ k + j → number (drop k part) < 256 ^ j
+  pub part-lt : (k j : ℕ) → Bytes s → m ≤ k + j → littleEndian (drop k part) < 256 ^ j
   part-lt k j h l = number-lt j _ (bytes-drop k _ (bytes-take m _ (bytes-drop at s h))) (rw length-drop (omega (arith, part-length)))
 
 -- what `number_at` answers at a size of at most four
-pub sized : (s : List ℕ) (at size n : ℕ) → size ≤ 4 → n ≡ number (take (min size 4) (drop at s)) → n ≡ number (take size (drop at s))
+pub sized : (s : List ℕ) (at size n : ℕ) → size ≤ 4 → n ≡ littleEndian (take (min size 4) (drop at s)) → n ≡ littleEndian (take size (drop at s))
 sized s at size n l e = e ∙ rw (min-eq-left l)
 
-pub sized-lt : (s : List ℕ) (at size n : ℕ) → Bytes s → n ≡ number (take size (drop at s)) → n < 256 ^ size
+pub sized-lt : (s : List ℕ) (at size n : ℕ) → Bytes s → n ≡ littleEndian (take size (drop at s)) → n < 256 ^ size
 sized-lt s at size n h e = rw e (part-lt s at size 0 size h (omega arith))
 
 -- ---- storing, the rest gives the whole; beyond the end nothing is stored

@@ -6,7 +6,7 @@ ghost use Prim.Native.Nat.{_-_, _≤_, min};
 ghost use lib.ListN.{length, take, drop};
 ghost use lib.Seq.{sets};
 ghost use Rattle.runs.specs.Runs.{between, before};
-ghost use Rattle.runs.specs.Number.{number, bytesOf};
+ghost use Rattle.runs.specs.Number.{littleEndian, bytesOf};
 
 // The smaller of two numbers.
 pub fn least(a: usize, b: usize) -> usize
@@ -24,7 +24,7 @@ fn left(n: usize, at: usize) -> usize
 
 // The number that the bytes from a place stand for, at most size of them and at most four.
 pub fn number_at(s: &[u8], at: usize, size: usize) -> u32
-    ensures { λ r. ⌜ r ≡ number (take (min size 4) (drop at (now (s .entry)))) ⌝ }
+    ensures { λ r. ⌜ r ≡ littleEndian (take (min size 4) (drop at (now (s .entry)))) ⌝ }
 {
     let mut n: u32 = 0;
     let mut k = least(least(size, 4), left(s.len(), at));

@@ -11,7 +11,7 @@ use borrow.Author.Tests.{ne-eqb, le-leb, lt-leb, leb-true}
 use Rattle.bytes.specs.Bytes.{indexOf, slice}
 use Rattle.runs.proofs.Bytes.{drop-next}
 use Rattle.vector_text.specs.Laid.{runByte, sameByte, laid}
-use Rattle.vector_text.specs.Words.{wordsFrom, wordOf, firstOf, withDigit, decimalFrom, decimalOf, hexOf, unhexed, fitted, givenBy}
+use Rattle.vector_text.specs.Words.{wordsFrom, wordOf, firstOf, withDigit, decimalFrom, parsedDecimal, hexOf, unhexed, fitted, givenBy}
 
 -- behind the end of a line there is no word
 words-nil : (k : ℕ) → wordsFrom k [] ≡ []
@@ -107,11 +107,11 @@ module _ (word frame : List ℕ) (room : ℕ) where
   unfolding givenBy
   given-frame h = rw h
 
-  pub given-run : firstOf word ≡ 114 → givenBy word frame room ≡ laid runByte (min (decimalOf word) room)
+  pub given-run : firstOf word ≡ 114 → givenBy word frame room ≡ laid runByte (min (parsedDecimal word) room)
   unfolding givenBy
   given-run h = rw h
 
-  pub given-same : firstOf word ≡ 115 → givenBy word frame room ≡ laid sameByte (min (decimalOf word) room)
+  pub given-same : firstOf word ≡ 115 → givenBy word frame room ≡ laid sameByte (min (parsedDecimal word) room)
   unfolding givenBy
   given-same h = rw h
 

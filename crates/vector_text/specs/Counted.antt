@@ -10,5 +10,5 @@ abbrev pub Counted : {A : Type 0} → ℕ → List A → Type 0
 Counted n xs = (n ≤ length xs) × (n ≡ length (take n xs))
 
 -- a run laid over the start of memory, and its length
-abbrev pub Puts : List ℕ → List ℕ → List ℕ → ℕ → Type 0
-Puts run before after n = (n ≡ length run) × Counted n after × (after ≡ over run before)
+abbrev pub PutAtStart : List ℕ → List ℕ → List ℕ → ℕ → Type 0
+PutAtStart run before after n = (n ≡ length run) × Counted n after × (after ≡ over run before)

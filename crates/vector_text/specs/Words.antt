@@ -29,12 +29,12 @@ decimalFrom n [] = n
 decimalFrom n (b ∷ bs) = decimalFrom (withDigit n b) bs
 
 -- the number that the digits of a word make
-abbrev pub decimalOf : List ℕ → ℕ
-decimalOf word = decimalFrom 0 word
+abbrev pub parsedDecimal : List ℕ → ℕ
+parsedDecimal word = decimalFrom 0 word
 
 -- the number of word k
 unfoldable pub numberOf : ℕ → List ℕ → ℕ
-numberOf k line = decimalOf (wordOf k line)
+numberOf k line = parsedDecimal (wordOf k line)
 
 -- the value of a hex digit in upper case; any other character stands for 0
 abbrev pub hexOf : ℕ → ℕ
@@ -55,8 +55,8 @@ fitted room bytes = cond (leb (length bytes) room) bytes []
 unfoldable pub givenBy : List ℕ → List ℕ → ℕ → List ℕ
 givenBy word frame room =
     cond (eqb (firstOf word) 102) (fitted room frame)
-    (cond (eqb (firstOf word) 114) (laid runByte (min (decimalOf word) room))
-    (cond (eqb (firstOf word) 115) (laid sameByte (min (decimalOf word) room)) (take room (unhexed word))))
+    (cond (eqb (firstOf word) 114) (laid runByte (min (parsedDecimal word) room))
+    (cond (eqb (firstOf word) 115) (laid sameByte (min (parsedDecimal word) room)) (take room (unhexed word))))
 
 -- the word `example`
 abbrev pub example : List ℕ

@@ -2,7 +2,7 @@
 ghost use mathlib.Core.Path.{_≡_};
 ghost use Prim.Native.Nat.{_≤_, min};
 ghost use lib.ListN.{length};
-ghost use Rattle.vector_text.specs.Counted.{Counted, Puts};
+ghost use Rattle.vector_text.specs.Counted.{Counted, PutAtStart};
 ghost use Rattle.vector_text.specs.Laid.{byteOf, laid};
 ghost use Rattle.vector_text.specs.Words.{fitted};
 
@@ -61,7 +61,7 @@ pub fn within(count: usize, bytes: &[u8]) -> usize
 
 // Copies all bytes to the start of out, none if they do not fit, and answers how many.
 pub fn copy(source: &[u8], out: &mut [u8]) -> usize
-    ensures { λ r. ⌜ Puts (fitted (length (now (out .entry))) (now (source .entry))) (now (out .entry)) (now (out .exit)) r ⌝ }
+    ensures { λ r. ⌜ PutAtStart (fitted (length (now (out .entry))) (now (source .entry))) (now (out .entry)) (now (out .exit)) r ⌝ }
 {
     if source.len() <= out.len() {
         bytes::copy(source, out)

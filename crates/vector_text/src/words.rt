@@ -5,9 +5,9 @@ ghost use mathlib.Core.Path.{_≡_};
 ghost use mathlib.Core.Bool.{true};
 ghost use Prim.Native.Nat.{_≤_, _%_, _^_, min};
 ghost use lib.ListN.{length, take, drop};
-ghost use Rattle.vector_text.specs.Counted.{Puts};
+ghost use Rattle.vector_text.specs.Counted.{PutAtStart};
 ghost use Rattle.vector_text.specs.Laid.{byteOf, laid};
-ghost use Rattle.vector_text.specs.Words.{wordsFrom, wordOf, firstOf, withDigit, decimalOf, numberOf, hexOf, unhexed, givenBy, example};
+ghost use Rattle.vector_text.specs.Words.{wordsFrom, wordOf, firstOf, withDigit, parsedDecimal, numberOf, hexOf, unhexed, givenBy, example};
 
 // The place at which word k begins.
 fn start(line: &[u8], k: usize) -> usize
@@ -65,7 +65,7 @@ fn with_digit(value: u64, b: u8) -> u64
 
 // The number that the digits of a word make, whatever else stands in it.
 fn decimal(word: &[u8]) -> u64
-    ensures { λ r. ⌜ r ≡ decimalOf (now (word .entry)) ⌝ }
+    ensures { λ r. ⌜ r ≡ parsedDecimal (now (word .entry)) ⌝ }
 {
     let mut value: u64 = 0;
     let mut i = 0;
@@ -137,7 +137,7 @@ fn hex_digit(b: u8) -> u8
 
 // The bytes of a word in hex, as far as there is room.
 fn unhex(word: &[u8], out: &mut [u8]) -> usize
-    ensures { λ r. ⌜ Puts (take (length (now (out .entry))) (unhexed (now (word .entry)))) (now (out .entry)) (now (out .exit)) r ⌝ }
+    ensures { λ r. ⌜ PutAtStart (take (length (now (out .entry))) (unhexed (now (word .entry)))) (now (out .entry)) (now (out .exit)) r ⌝ }
 {
     let most = runs::least(word.len() / 2, out.len());
     let mut n = 0;
@@ -150,7 +150,7 @@ fn unhex(word: &[u8], out: &mut [u8]) -> usize
 
 // So many bytes of a content, as far as there is room.
 fn lay(content: Content, count: usize, out: &mut [u8]) -> usize
-    ensures { λ r. ⌜ Puts (laid (byteOf content) (min count (length (now (out .entry))))) (now (out .entry)) (now (out .exit)) r ⌝ }
+    ensures { λ r. ⌜ PutAtStart (laid (byteOf content) (min count (length (now (out .entry))))) (now (out .entry)) (now (out .exit)) r ⌝ }
 {
     let n = memory::within(count, out);
     memory::fill(content, &mut out[..n]);
@@ -159,7 +159,7 @@ fn lay(content: Content, count: usize, out: &mut [u8]) -> usize
 
 // Puts the bytes of a word at the start of out and answers how many. The last frame is `frame`.
 pub fn bytes(line: &[u8], k: usize, frame: &[u8], out: &mut [u8]) -> usize
-    ensures { λ r. ⌜ Puts (givenBy (wordOf k (now (line .entry))) (now (frame .entry)) (length (now (out .entry)))) (now (out .entry)) (now (out .exit)) r ⌝ }
+    ensures { λ r. ⌜ PutAtStart (givenBy (wordOf k (now (line .entry))) (now (frame .entry)) (length (now (out .entry)))) (now (out .entry)) (now (out .exit)) r ⌝ }
 {
     let it = word(line, k);
     match first_of(it) {

@@ -177,6 +177,24 @@ fn answer_fresh(line: &[u8], kept: Kept, store: &mut [u8]) -> Kept {
     after
 }
 
+// A store of these bytes; the state stays.
+fn answer_store(line: &[u8], kept: Kept, frame: &[u8], store: &mut [u8]) -> Kept {
+    let last = memory::within(kept.frame, frame);
+    let mut after = kept;
+    after.room = words::bytes(line, 1, &frame[..last], store);
+    after
+}
+
+// All bytes of the store, however many.
+fn show_content(room: usize, store: &[u8]) {
+    let n = memory::within(room, store);
+    if n == 0 {
+        print::word(b"-");
+    } else {
+        print::hex(&store[..n]);
+    }
+}
+
 fn state_of(mode: usize, count: usize, length: usize, open: u32, noise: u32) -> mdu::State {
     let base = framing::State {
         mode: mode,
@@ -219,6 +237,12 @@ pub(crate) fn answer(line: &[u8], kept: Kept, frame: &[u8], store: &mut [u8]) ->
     }
     if words::is(line, 0, b"fresh") {
         return answer_fresh(line, kept, store);
+    }
+    if words::is(line, 0, b"store") {
+        return answer_store(line, kept, frame, store);
+    }
+    if words::is(line, 0, b"content") {
+        show_content(kept.room, store);
     }
     if words::is(line, 0, b"part") {
         parts::answer(line, kept.link);

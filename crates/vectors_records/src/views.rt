@@ -1,11 +1,11 @@
 // Lines of record views. The two functions that have a view are proved by hand, so they do nothing else.
-use crate::records;
+use crate::signs;
 use record::Element;
 use record::RecordView;
 use vector_text::print;
 use vector_text::words;
 ghost use mathlib.Core.Path.{_≡_};
-ghost use Rattle.record.specs.Form.{head, headOf};
+ghost use Rattle.record.specs.Form.{header, headerOf};
 ghost use Rattle.record.specs.Answers.{viewing, outcomesOf};
 
 // What a view of a payload has.
@@ -15,7 +15,7 @@ struct Fields {
 }
 
 fn fields_of(payload: &[u8]) -> Fields
-    ensures { λ r. ⌜ head (r .kind) (r .count) ≡ headOf (now (payload .entry)) ⌝ }
+    ensures { λ r. ⌜ header (r .kind) (r .count) ≡ headerOf (now (payload .entry)) ⌝ }
 {
     let view = record::view(payload);
     Fields {
@@ -57,29 +57,29 @@ fn view_element(line: &[u8], payload: &[u8]) {
         words::size(line, 5),
     );
     if words::is(line, 1, b"signed") {
-        records::show_signed(record::as_signed(element));
+        signs::show_signed(record::as_signed(element));
     } else {
-        records::show_unsigned(record::as_unsigned(element));
+        signs::show_unsigned(record::as_unsigned(element));
     }
 }
 
-fn answer_view(line: &[u8]) {
+fn answer_view(line: &[u8], kept: &[u8]) {
     let mut payload = io::buffer();
-    let n = words::bytes(line, 1, b"", &mut payload);
+    let n = words::bytes(line, 1, kept, &mut payload);
     view(&payload[..n]);
 }
 
-fn answer_element(line: &[u8]) {
+fn answer_element(line: &[u8], kept: &[u8]) {
     let mut payload = io::buffer();
-    let n = words::bytes(line, 2, b"", &mut payload);
+    let n = words::bytes(line, 2, kept, &mut payload);
     view_element(line, &payload[..n]);
 }
 
-pub(crate) fn answer(line: &[u8]) {
+pub(crate) fn answer(line: &[u8], kept: &[u8]) {
     if words::is(line, 0, b"view") {
-        answer_view(line);
+        answer_view(line, kept);
     }
     if words::is(line, 0, b"view-element") {
-        answer_element(line);
+        answer_element(line, kept);
     }
 }

@@ -8,12 +8,12 @@ use crate::stream::{self, Event, Link, State};
 
 pub struct Dle;
 
-const HUNTING: u32 = 0;
+const HUNTING: u64 = 0;
 /// Still hunting, with a 10 waiting.
-const HALF_START: u32 = 1;
-const OPEN: u32 = 2;
+const HALF_START: u64 = 1;
+const OPEN: u64 = 2;
 /// Open, with a 10 waiting.
-const HALF: u32 = 3;
+const HALF: u64 = 3;
 
 const MARK: u8 = 0x10;
 const START: u8 = 0x02;
@@ -89,8 +89,9 @@ fn judge(gathered: &[u8]) -> Result<Message, u8> {
 fn hunting(state: &mut State, byte: u8) {
     let waiting = state.mode == HALF_START;
     if waiting && byte == START {
+        // Counts on from the half mark (a strange `open` is left free by the paper, decided so).
         state.mode = OPEN;
-        state.open = 2;
+        state.open = state.open.wrapping_add(1);
     } else if !waiting && byte == MARK {
         state.mode = HALF_START;
         state.open = 1;

@@ -9,9 +9,9 @@ use crate::stream::{self, Event, Link, State};
 
 pub struct Expansion;
 
-const OPEN: u32 = 1;
+const OPEN: u64 = 1;
 /// Open, with an FF waiting.
-const HALF: u32 = 2;
+const HALF: u64 = 2;
 
 const START: u8 = 0xFD;
 const END: u8 = 0xFE;

@@ -1,17 +1,21 @@
-//! The gate exchange (asking end and answering end) and the chain address.
+//! The gate exchange (asking end and responding end) and the chain address.
 
-/// The asking end's state, of any numbers; all are 0 in a fresh one.
-/// `id` is the waiting id while waiting and the next one to be used while idle.
-#[derive(Clone, Copy, Debug, Default, PartialEq, Eq)]
+/// The asking end's state, of any numbers. `id` is the latest one, also while idle.
+#[derive(Clone, Copy, Debug, PartialEq, Eq)]
 pub struct Asking {
-    pub mode: u32,
+    pub mode: u16,
     pub id: u8,
     pub repeat: u8,
     pub sent: u32,
 }
 
-const IDLE: u32 = 0;
-const WAITING: u32 = 1;
+const IDLE: u16 = 0;
+const WAITING: u16 = 1;
+
+/// A fresh one's first id is 0, the one after 255.
+pub fn fresh() -> Asking {
+    Asking { mode: IDLE, id: 255, repeat: 0, sent: 0 }
+}
 
 /// A wait is over after so many milliseconds.
 const WAIT: u32 = 100;
@@ -31,9 +35,9 @@ fn odd(asking: Asking) -> bool {
     asking.mode > WAITING || asking.repeat > 3
 }
 
-/// Idle again, the next id standing by.
+/// Idle again; the other numbers stay (left free by the paper, decided so).
 fn idle(asking: Asking) -> Asking {
-    Asking { mode: IDLE, id: asking.id.wrapping_add(1), repeat: 0, sent: asking.sent }
+    Asking { mode: IDLE, ..asking }
 }
 
 /// Start: 12, then 14 while waiting; idle it sends the next id with repeat 0.
@@ -44,8 +48,8 @@ pub fn start(asking: Asking, now: u32) -> (Asking, Answer) {
     if asking.mode == WAITING {
         return (asking, Answer::Refused(14));
     }
-    let waiting = Asking { mode: WAITING, id: asking.id, repeat: 0, sent: now };
-    (waiting, Answer::Send { id: asking.id, repeat: 0 })
+    let id = asking.id.wrapping_add(1);
+    (Asking { mode: WAITING, id, repeat: 0, sent: now }, Answer::Send { id, repeat: 0 })
 }
 
 /// Sends again with the next repeat, or gives up after the third.
@@ -84,9 +88,9 @@ pub fn arrival(asking: Asking, kind: u8, id: u8, now: u32) -> (Asking, Answer) {
     (asking, Answer::Nothing)
 }
 
-/// The answering end's state: whether a request was handed out, and its id.
+/// The responding end's state: whether a request was handed out, and its id.
 #[derive(Clone, Copy, Debug, Default, PartialEq, Eq)]
-pub struct Answering {
+pub struct Responder {
     pub handed: bool,
     pub id: u8,
 }
@@ -105,27 +109,34 @@ fn reply(id: u8, kind: u8, head: bool, address: u8) -> Reply {
     Reply { id, kind, repeat: 0, address: if head { address } else { 0 } }
 }
 
+/// The new state, the reply, and whether the request is handed out.
+pub type Response = (Responder, Option<Reply>, bool);
+
 /// An accepted frame: every request is acknowledged; a repeat of the request
-/// handed out last is not handed out again. Gives the new state,
-/// the reply and whether the request is handed out.
-pub fn accepted(answering: Answering, head: bool, id: u8, kind: u8, repeat: u8, address: u8) -> (Answering, Option<Reply>, bool) {
+/// handed out last is not handed out again.
+pub fn accepted(responder: Responder, head: bool, id: u8, kind: u8, repeat: u8, address: u8) -> Response {
     if kind != 0 {
-        return (answering, None, false);
+        return (responder, None, false);
     }
     let acknowledgement = Some(reply(id, 1, head, address));
-    if answering.handed && answering.id == id && repeat > 0 {
-        return (answering, acknowledgement, false);
+    if responder.handed && responder.id == id && repeat > 0 {
+        return (responder, acknowledgement, false);
     }
-    (Answering { handed: true, id }, acknowledgement, true)
+    (Responder { handed: true, id }, acknowledgement, true)
 }
 
 /// A refused frame: an 8 gets a check error that bears the gathered id.
 /// No reply where the store can't hold an address (left free by the paper).
-pub fn refused(head: bool, number: u8, store: &[u8]) -> Option<Reply> {
+pub fn refused(responder: Responder, head: bool, number: u8, store: &[u8]) -> Response {
     if number != 8 || store.len() < 4 {
-        return None;
+        return (responder, None, false);
     }
-    Some(reply(store[0], 2, head, store[3]))
+    (responder, Some(reply(store[0], 2, head, store[3])), false)
+}
+
+/// A call of the receiver that told nothing.
+pub fn quiet(responder: Responder) -> Response {
+    (responder, None, false)
 }
 
 /// One step down the chain; none from 0.

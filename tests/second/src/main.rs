@@ -1,4 +1,4 @@
-//! Second implementation of linebox, written from document 01 alone.
+//! Second implementation of linebox, written from document 01 and the readings noted in docs/DECISIONS.md, not from the crates.
 //! See README.md for how to run each part.
 
 mod captures;
@@ -32,7 +32,8 @@ const USAGE: &str = "usage: second listing < input
        second captures DIR SEED COUNT
        second calls PART
        second vectors PART
-PART is values, links or records";
+       second generated DIR SEED COUNT
+PART is values, links, gate or records";
 
 #[cfg(feature = "host")]
 fn run_compare(seed: u64, count: u64) -> ExitCode {
@@ -44,6 +45,28 @@ fn run_compare(seed: u64, count: u64) -> ExitCode {
     eprintln!("built without the feature `host`: comparing this implementation with itself only");
     let _ = finish(compare::compare(&compare::Own, seed, count));
     ExitCode::from(2)
+}
+
+/// Files of generated lines; fails if an answer that a call can give is not among them.
+fn run_generated(folder: &str, seed: u64, count: usize) -> ExitCode {
+    match vectors::generate(Path::new(folder), seed, count) {
+        Err(error) => {
+            eprintln!("{error}");
+            ExitCode::FAILURE
+        }
+        Ok(tally) => {
+            print!("seed {seed}, {count} sequences of each sort\n{}", tally.table());
+            let missing = tally.missing();
+            for line in &missing {
+                println!("{line}");
+            }
+            if missing.is_empty() {
+                ExitCode::SUCCESS
+            } else {
+                ExitCode::FAILURE
+            }
+        }
+    }
 }
 
 fn finish(result: Result<compare::Counts, String>) -> ExitCode {
@@ -104,6 +127,13 @@ fn main() -> ExitCode {
         ["vectors", part] => print_part(vectors::vectors, part),
         ["compare", seed, count] => match (seed.parse(), count.parse()) {
             (Ok(seed), Ok(count)) => run_compare(seed, count),
+            _ => {
+                eprintln!("{USAGE}");
+                ExitCode::from(2)
+            }
+        },
+        ["generated", folder, seed, count] => match (seed.parse(), count.parse()) {
+            (Ok(seed), Ok(count)) => run_generated(folder, seed, count),
             _ => {
                 eprintln!("{USAGE}");
                 ExitCode::from(2)

@@ -9,8 +9,8 @@ use crate::sum;
 
 pub struct Mdu;
 
-const HUNTING: u32 = 0;
-const OPEN: u32 = 1;
+const HUNTING: u64 = 0;
+const OPEN: u64 = 1;
 
 const START: u8 = 0xE3;
 const VERSION: u8 = 0x01;
@@ -48,14 +48,14 @@ pub fn write(address: u8, body: &[u8], out: &mut [u8]) -> Result<usize, u8> {
 }
 
 /// The tests at byte six: version and address 9, header sum 8, length 10.
-fn judge_header(header: &[u8]) -> Result<u32, u8> {
+fn judge_header(header: &[u8]) -> Result<u64, u8> {
     if header[1] != VERSION || header[4] == 0 {
         return Err(9);
     }
     if sum::modulo_256(&header[..5]) != header[5] {
         return Err(8);
     }
-    let length = header[2] as u32 * 256 + header[3] as u32;
+    let length = header[2] as u64 * 256 + header[3] as u64;
     if !(1..=1025).contains(&length) {
         return Err(10);
     }

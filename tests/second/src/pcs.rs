@@ -9,8 +9,8 @@ use crate::sum;
 
 pub struct Pcs;
 
-const HUNTING: u32 = 0;
-const OPEN: u32 = 1;
+const HUNTING: u64 = 0;
+const OPEN: u64 = 1;
 
 const START: u8 = 253;
 const END: u8 = 254;

@@ -7,11 +7,11 @@
 /// Only MDU uses `length`.
 #[derive(Clone, Copy, Debug, Default, PartialEq, Eq)]
 pub struct State {
-    pub mode: u32,
+    pub mode: u64,
     /// How many bytes are gathered; they stand at the front of the store.
-    pub count: u32,
+    pub count: u64,
     /// MDU: the stated length, from byte six on.
-    pub length: u32,
+    pub length: u64,
     /// Wire bytes of the open frame (or the half mark), going round.
     pub open: u32,
     /// Bytes of noise, going round from 4,294,967,295 to 0.
@@ -58,9 +58,9 @@ pub trait Link {
 
 /// What gives 12 on every link: a mode that it has not, or a count that is too
 /// high, while hunting already above 0. Modes below `hunting` hunt, those below `known` are known.
-pub fn odd(state: State, known: u32, hunting: u32, size: usize) -> bool {
+pub fn odd(state: State, known: u64, hunting: u64, size: usize) -> bool {
     state.mode >= known
-        || state.count as usize > size
+        || state.count > size as u64
         || (state.mode < hunting && state.count > 0)
 }
 
@@ -110,7 +110,7 @@ pub fn end<M>(state: &mut State, verdict: Result<M, u8>) -> Event<M> {
 }
 
 /// One byte after unhiding, in a frame that stays open; one more than the link's size is not stored.
-pub fn gather<M>(state: &mut State, store: &mut [u8], byte: u8, open: u32, size: usize) -> Event<M> {
+pub fn gather<M>(state: &mut State, store: &mut [u8], byte: u8, open: u64, size: usize) -> Event<M> {
     if state.count as usize == size {
         hunt(state);
         return Event::Refused(5);

@@ -5,14 +5,14 @@
 //! `vectors_PART`. `second vectors PART` prints the same lines, each followed by what
 //! the call answered: what the program has to print. Below a bar, which is not
 //! printed, stands between the two. PART is `values` (sections `crc`, `whole` and most
-//! of `examples`), `links` (those of the links) or `records` (all others).
+//! of `examples`), `links` (those of the links), `gate` or `records` (all others).
 //!
 //! A line is words with one space between them. Numbers are decimal. BYTES are
 //! upper-case hex without spaces; `-` stands for none, `runN` for N bytes of
 //! which byte k is (7k + 3) modulo 256, `sameN` for N bytes 05, `frame` for the
-//! frame that the last successful `write` or `write-error` line left. Where a
-//! frame or data would be printed and has more than 64 bytes, `long` is printed
-//! instead.
+//! frame that the last successful `write` or `write-error` line left, in part
+//! `records` for the bytes of the last `keep` line. Where a frame or data would be
+//! printed and has more than 64 bytes, `long` is printed instead.
 //!
 //! Lent memory (a writer's output, a receiver's store) is filled beforehand:
 //! place k holds k modulo 251. A MIX is taken over all of it: from 0, for each
@@ -37,6 +37,8 @@
 //!     write-error NUMBERS room R | ANSWER memory MIX
 //!         ANSWER is `refused N`, or `length L frame BYTES`
 //!     fresh R                             a fresh state and a filled store of R bytes
+//!     store BYTES                         a store of these bytes, the state stays
+//!     content | BYTES                     all of the store, however long
 //!     state STATE                         puts these numbers into the state, the store stays
 //!         STATE is mode, count, open, noise; for MDU mode, count, length, open, noise
 //!     receive BYTES | used U EVENT state STATE store MIX
@@ -49,29 +51,34 @@
 //!                                         message of data length L gives N bytes
 //!
 //! Gate exchange (section `gate`). ANSWER is `nothing`, `send ID REPEAT`, `done`,
-//! `given-up` or `refused N`; M is the asking end's mode afterwards.
+//! `given-up` or `refused N`; STATE is the asking end's mode (below 65,536), latest
+//! id, repeat and time of sending.
 //!     ask fresh
-//!     ask state MODE REPEAT               puts these two into the state as it stands
-//!     ask start NOW | ANSWER mode M
-//!     ask tick NOW | ANSWER mode M
-//!     ask arrival TYPE ID NOW | ANSWER mode M
-//!     ask cycle N | last ID               N times a start and its acknowledgement, all
+//!     ask state STATE
+//!     ask start NOW | ANSWER state STATE
+//!     ask tick NOW | ANSWER state STATE
+//!     ask arrival ID TYPE NOW | ANSWER state STATE
+//!     ask cycle N | last ID state STATE   N times a start and its acknowledgement, all
 //!                                         at time 0; ID is the last one sent
-//!     answer fresh
-//!     answer WHO ID TYPE REPEAT ADDRESS | REPLY handed H
+//!     respond fresh
+//!     respond state H ID                  H is 1 if one was handed out, ID the last one
+//!     respond WHO ID TYPE REPEAT ADDRESS | REPLY handed H last L
 //!         an accepted frame at WHO (`board` or `head`); H is 1 if it is handed out
-//!         REPLY is `reply ID TYPE REPEAT ADDRESS` or `reply none`
-//!     answer-refused WHO N BYTES | REPLY  a frame refused with N, BYTES its store
+//!         REPLY is `reply ID TYPE REPEAT ADDRESS` or `reply none`; L is the id handed
+//!         out last, `none` if there is none
+//!     respond-refused WHO N BYTES | REPLY handed H last L
+//!         a frame refused with N, BYTES its store; N is 0 where nothing was told
 //!     chain down A | gives B here H       H is 1 if that means here
 //!     chain up A | gives B                both: or `refused 15`
 //!
 //! Records (section `records`). SIGN is `unsigned` or `signed`; the lent run of
-//! fares has R places, place k holding k + 1 beforehand; PLACES are all of them
-//! afterwards (none printed if R is 0).
+//! fares has R places (at most 1,100), place k holding k + 1 beforehand; PLACES are
+//! all of them afterwards (none printed if R is 0).
+//!     keep BYTES                                     for the word `frame`
 //!     copy SIGN BYTES room R | ANSWER places PLACES  ANSWER `count C` or `refused N`
 //!     element SIGN BYTES K | ANSWER                  ANSWER `value V` or `refused N`
 //!     make SIGN TYPE ADDRESS room R fares N FARES | ANSWER memory MIX
-//!         N fares, of which the first few are given and the others are 0
+//!         N fares (at most 1,100), of which the first are given and the others are 0
 //!         ANSWER is `refused N` or `length L record BYTES`
 //!
 //! Record views (section `views`)
@@ -87,6 +94,7 @@
 mod dle;
 mod expansion;
 mod gate;
+mod generated;
 mod link;
 mod mdu;
 mod pcs;
@@ -97,6 +105,7 @@ mod values;
 use gate::gate_section;
 use records::{records_section, views_section};
 use text::{section, Lines};
+pub use generated::generate;
 use values::{crc_section, examples_section};
 
 /// One of the programs.
@@ -104,6 +113,7 @@ use values::{crc_section, examples_section};
 pub enum Part {
     Values,
     Links,
+    Gate,
     Records,
 }
 
@@ -112,6 +122,7 @@ impl Part {
         match name {
             "values" => Some(Part::Values),
             "links" => Some(Part::Links),
+            "gate" => Some(Part::Gate),
             "records" => Some(Part::Records),
             _ => None,
         }
@@ -143,7 +154,6 @@ fn links_lines() -> Lines {
 
 fn records_lines() -> Lines {
     let mut lines = examples_section(Part::Records);
-    lines.append(gate_section());
     lines.append(records_section());
     lines.append(views_section());
     lines
@@ -153,6 +163,7 @@ fn lines(part: Part) -> Lines {
     let mut lines = match part {
         Part::Values => values_lines(),
         Part::Links => links_lines(),
+        Part::Gate => gate_section(),
         Part::Records => records_lines(),
     };
     lines.add("end", "");
@@ -187,7 +198,7 @@ mod tests {
 
     #[test]
     fn each_line_begins_with_its_call() {
-        for part in [Part::Values, Part::Links, Part::Records] {
+        for part in [Part::Values, Part::Links, Part::Gate, Part::Records] {
             let (calls, text) = (calls(part), vectors(part));
             assert_eq!(calls.lines().count(), text.lines().count());
             assert!(calls.lines().zip(text.lines()).all(|(call, line)| line.starts_with(call)));
@@ -196,7 +207,7 @@ mod tests {
 
     #[test]
     fn every_number_of_the_table_appears() {
-        let text = [Part::Values, Part::Links, Part::Records].map(vectors).concat();
+        let text = [Part::Values, Part::Links, Part::Gate, Part::Records].map(vectors).concat();
         for number in 1..=18 {
             let word = format!("refused {number}");
             let seen = text.lines().any(|line| line.contains(&format!("{word} ")) || line.ends_with(&word));

@@ -20,66 +20,6 @@ abbrev μ-loop : tie.MeasureT-loop
 loop-holds : tie.Need-loop-holds Inv-loop μ-loop
 loop-holds c = (omega arith, λ p rule. braid-start p _ _)
 
-sub-loop : tie.Need-sub-loop Inv-loop μ-loop
-sub-loop c = omega arith
-
-word-requires : tie.Need-word-requires Inv-loop μ-loop
-word-requires c κs = omega arith
-
-shift192-requires : tie.Need-shift192-requires Inv-loop μ-loop
-shift192-requires c κs = tt
-
-add-word : tie.Need-add-word Inv-loop μ-loop
-add-word c = omega arith
-
-word-requires-2 : tie.Need-word-requires-2 Inv-loop μ-loop
-word-requires-2 c κs = omega arith
-
-shift192-requires-2 : tie.Need-shift192-requires-2 Inv-loop μ-loop
-shift192-requires-2 c κs = tt
-
-add-word-2 : tie.Need-add-word-2 Inv-loop μ-loop
-add-word-2 c = omega arith
-
-word-requires-3 : tie.Need-word-requires-3 Inv-loop μ-loop
-word-requires-3 c κs = omega arith
-
-shift192-requires-3 : tie.Need-shift192-requires-3 Inv-loop μ-loop
-shift192-requires-3 c κs = tt
-
-add-word-3 : tie.Need-add-word-3 Inv-loop μ-loop
-add-word-3 c = omega arith
-
-word-requires-4 : tie.Need-word-requires-4 Inv-loop μ-loop
-word-requires-4 c κs = omega arith
-
-shift192-requires-4 : tie.Need-shift192-requires-4 Inv-loop μ-loop
-shift192-requires-4 c κs = tt
-
-add-word-4 : tie.Need-add-word-4 Inv-loop μ-loop
-add-word-4 c = omega arith
-
-word-requires-5 : tie.Need-word-requires-5 Inv-loop μ-loop
-word-requires-5 c κs = omega arith
-
-shift192-requires-5 : tie.Need-shift192-requires-5 Inv-loop μ-loop
-shift192-requires-5 c κs = tt
-
-add-word-5 : tie.Need-add-word-5 Inv-loop μ-loop
-add-word-5 c = omega arith
-
-word-requires-6 : tie.Need-word-requires-6 Inv-loop μ-loop
-word-requires-6 c κs = omega arith
-
-shift192-requires-6 : tie.Need-shift192-requires-6 Inv-loop μ-loop
-shift192-requires-6 c κs = tt
-
-add-i : tie.Need-add-i Inv-loop μ-loop
-add-i c = omega arith
-
-loop-less : tie.Need-loop-less Inv-loop μ-loop
-loop-less c = omega arith
-
 -- the promises of `word` give the six words of a block, those of `shift192` each register a block on, for `braid-next`
 loop-again : tie.Need-loop-again Inv-loop μ-loop
 unfolding both
@@ -116,29 +56,7 @@ returns c = (c .before .loop .inv .0, c .before .loop .inv .1)
 pub after-blocks-spec : {M : Type 1} → statement M
 after-blocks-spec =
     tie.close
-    (tie.spec
-    Inv-loop
-    μ-loop
-    loop-holds
-    sub-loop
-    word-requires
-    shift192-requires
-    add-word
-    word-requires-2
-    shift192-requires-2
-    add-word-2
-    word-requires-3
-    shift192-requires-3
-    add-word-3
-    word-requires-4
-    shift192-requires-4
-    add-word-4
-    word-requires-5
-    shift192-requires-5
-    add-word-5
-    word-requires-6
-    shift192-requires-6
-    add-i
-    loop-less
-    loop-again
+    (tie.spec Inv-loop μ-loop loop-holds (λ c. omega arith) (λ c κs. omega arith) (λ c κs. tt) (λ c. omega arith) (λ c κs. omega arith) (λ c κs. tt)
+    (λ c. omega arith) (λ c κs. omega arith) (λ c κs. tt) (λ c. omega arith) (λ c κs. omega arith) (λ c κs. tt) (λ c. omega arith)
+    (λ c κs. omega arith) (λ c κs. tt) (λ c. omega arith) (λ c κs. omega arith) (λ c κs. tt) (λ c. omega arith) (λ c. omega arith) loop-again
     returns)

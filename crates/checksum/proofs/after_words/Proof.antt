@@ -16,23 +16,8 @@ Inv-loop table start bytes whole c₀ i₀ c i =
 abbrev μ-loop : tie.MeasureT-loop
 μ-loop table start bytes whole c₀ i₀ c i = whole - i
 
-mul-whole : tie.Need-mul-whole Inv-loop μ-loop
-mul-whole c = omega arith
-
 loop-holds : tie.Need-loop-holds Inv-loop μ-loop
 loop-holds c = (omega arith, refl, refl, λ p rule. bytes-start p _ _)
-
-word-requires : tie.Need-word-requires Inv-loop μ-loop
-word-requires c κs = omega arith
-
-shift32-requires : tie.Need-shift32-requires Inv-loop μ-loop
-shift32-requires c κs = tt
-
-add-i : tie.Need-add-i Inv-loop μ-loop
-add-i c = omega arith
-
-loop-less : tie.Need-loop-less Inv-loop μ-loop
-loop-less c = omega arith
 
 loop-again : tie.Need-loop-again Inv-loop μ-loop
 loop-again c =
@@ -49,14 +34,5 @@ returns c p rule =
 pub after-words-spec : {M : Type 1} → statement M
 after-words-spec =
     tie.close
-    (tie.spec
-    Inv-loop
-    μ-loop
-    mul-whole
-    loop-holds
-    word-requires
-    shift32-requires
-    add-i
-    loop-less
-    loop-again
+    (tie.spec Inv-loop μ-loop (λ c. omega arith) loop-holds (λ c κs. omega arith) (λ c κs. tt) (λ c. omega arith) (λ c. omega arith) loop-again
     returns)

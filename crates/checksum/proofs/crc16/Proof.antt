@@ -6,12 +6,6 @@ use Rattle.checksum.proofs.CheckValue.{crc16-lt}
 use Rattle.checksum.proofs.crc16.Statement.{statement}
 use Rattle.checksum.proofs.crc16.Tie as tie
 
-table16-requires : tie.Need-table16-requires
-table16-requires c κs = search needs
-
-after16-requires : tie.Need-after16-requires
-after16-requires c κs = search needs
-
 value : (c : tie.After-after16) → c .after16 .result ≡ crc16Of (c .before .before .before .before .args .bytes .now)
 value c = c .after16 .ensures (c .before .before .table16 .ensures)
 
@@ -24,4 +18,4 @@ returns : tie.Need-returns
 returns c = value c
 
 pub crc16-spec : {M : Type 1} → statement M
-crc16-spec = tie.close (tie.spec table16-requires after16-requires cast-result returns)
+crc16-spec = tie.close (tie.spec (λ c κs. search needs) (λ c κs. search needs) cast-result returns)

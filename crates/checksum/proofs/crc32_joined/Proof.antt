@@ -6,15 +6,6 @@ use Rattle.checksum.proofs.Run.{run-joined}
 use Rattle.checksum.proofs.crc32_joined.Statement.{statement}
 use Rattle.checksum.proofs.crc32_joined.Tie as tie
 
-table32-requires : tie.Need-table32-requires
-table32-requires c κs = search needs
-
-after-requires : tie.Need-after-requires
-after-requires c κs = search needs
-
-after32-requires : tie.Need-after32-requires
-after32-requires c κs = search needs
-
 returns : tie.Need-returns
 returns c =
     let rule = c .before .before .before .before .table32 .ensures in
@@ -22,4 +13,4 @@ returns c =
     (run-joined 0xEDB88320 (2 ^ 32 - 1) _ _ (c .before .after .ensures 0xEDB88320 rule) (c .after32 .ensures rule))
 
 pub crc32-joined-spec : {M : Type 1} → statement M
-crc32-joined-spec = tie.close (tie.spec table32-requires after-requires after32-requires returns)
+crc32-joined-spec = tie.close (tie.spec (λ c κs. search needs) (λ c κs. search needs) (λ c κs. search needs) returns)

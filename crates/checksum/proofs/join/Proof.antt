@@ -3,42 +3,6 @@ use Rattle.checksum.proofs.Braids.{braid-joined}
 use Rattle.checksum.proofs.join.Statement.{statement}
 use Rattle.checksum.proofs.join.Tie as tie
 
-word-requires : tie.Need-word-requires
-word-requires c κs = search needs
-
-shift32-requires : tie.Need-shift32-requires
-shift32-requires c κs = search needs
-
-word-requires-2 : tie.Need-word-requires-2
-word-requires-2 c κs = search needs
-
-shift32-requires-2 : tie.Need-shift32-requires-2
-shift32-requires-2 c κs = search needs
-
-word-requires-3 : tie.Need-word-requires-3
-word-requires-3 c κs = search needs
-
-shift32-requires-3 : tie.Need-shift32-requires-3
-shift32-requires-3 c κs = search needs
-
-word-requires-4 : tie.Need-word-requires-4
-word-requires-4 c κs = search needs
-
-shift32-requires-4 : tie.Need-shift32-requires-4
-shift32-requires-4 c κs = search needs
-
-word-requires-5 : tie.Need-word-requires-5
-word-requires-5 c κs = search needs
-
-shift32-requires-5 : tie.Need-shift32-requires-5
-shift32-requires-5 c κs = search needs
-
-word-requires-6 : tie.Need-word-requires-6
-word-requires-6 c κs = search needs
-
-shift32-requires-6 : tie.Need-shift32-requires-6
-shift32-requires-6 c κs = search needs
-
 -- the promises of `word` give the six words of the block, those of `shift32` the register after each, for `braid-joined`
 returns : tie.Need-returns
 returns c p x rule stands =
@@ -68,17 +32,6 @@ returns c p x rule stands =
 pub join-spec : {M : Type 1} → statement M
 join-spec =
     tie.close
-    (tie.spec
-    word-requires
-    shift32-requires
-    word-requires-2
-    shift32-requires-2
-    word-requires-3
-    shift32-requires-3
-    word-requires-4
-    shift32-requires-4
-    word-requires-5
-    shift32-requires-5
-    word-requires-6
-    shift32-requires-6
-    returns)
+    (tie.spec (λ c κs. search needs) (λ c κs. search needs) (λ c κs. search needs) (λ c κs. search needs) (λ c κs. search needs)
+    (λ c κs. search needs) (λ c κs. search needs) (λ c κs. search needs) (λ c κs. search needs) (λ c κs. search needs) (λ c κs. search needs)
+    (λ c κs. search needs) returns)

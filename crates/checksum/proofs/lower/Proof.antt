@@ -4,9 +4,6 @@ use borrow.Author.Needs.{needs}
 use Rattle.checksum.proofs.lower.Statement.{statement}
 use Rattle.checksum.proofs.lower.Tie as tie
 
-sub-result : tie.Need-sub-result
-sub-result c = search needs
-
 returns : tie.Need-returns
 returns c = simp (lt-ltb 250 (c .before .args .r) (omega arith))
 
@@ -14,4 +11,4 @@ returns-2 : tie.Need-returns-2
 returns-2 c = simp (le-ltb 250 (c .before .args .r) (omega arith))
 
 pub lower-spec : {M : Type 1} → statement M
-lower-spec = tie.close (tie.spec sub-result returns returns-2)
+lower-spec = tie.close (tie.spec (λ c. search needs) returns returns-2)

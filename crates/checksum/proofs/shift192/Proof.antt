@@ -7,18 +7,6 @@ use Rattle.checksum.proofs.Tables.{low-bits}
 use Rattle.checksum.proofs.shift192.Statement.{statement}
 use Rattle.checksum.proofs.shift192.Tie as tie
 
-long-entry-requires : tie.Need-long-entry-requires
-long-entry-requires c κs = search needs
-
-long-entry-requires-2 : tie.Need-long-entry-requires-2
-long-entry-requires-2 c κs = search needs
-
-long-entry-requires-3 : tie.Need-long-entry-requires-3
-long-entry-requires-3 c κs = search needs
-
-long-entry-requires-4 : tie.Need-long-entry-requires-4
-long-entry-requires-4 c κs = search needs
-
 returns : tie.Need-returns
 returns c p rule =
     let upper = c .before .before in
@@ -30,4 +18,4 @@ returns c p rule =
     (upper .long-entry2 .ensures p rule ∙ ap (shifts p 168) top)))
 
 pub shift192-spec : {M : Type 1} → statement M
-shift192-spec = tie.close (tie.spec long-entry-requires long-entry-requires-2 long-entry-requires-3 long-entry-requires-4 returns)
+shift192-spec = tie.close (tie.spec (λ c κs. search needs) (λ c κs. search needs) (λ c κs. search needs) (λ c κs. search needs) returns)

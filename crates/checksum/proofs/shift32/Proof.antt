@@ -7,30 +7,6 @@ use Rattle.checksum.proofs.Tables.{low-bits}
 use Rattle.checksum.proofs.shift32.Statement.{statement}
 use Rattle.checksum.proofs.shift32.Tie as tie
 
-entry-requires : tie.Need-entry-requires
-entry-requires c κs = search needs
-
-entry-requires-2 : tie.Need-entry-requires-2
-entry-requires-2 c κs = search needs
-
-entry-requires-3 : tie.Need-entry-requires-3
-entry-requires-3 c κs = search needs
-
-entry-requires-4 : tie.Need-entry-requires-4
-entry-requires-4 c κs = search needs
-
-entry-requires-5 : tie.Need-entry-requires-5
-entry-requires-5 c κs = search needs
-
-entry-requires-6 : tie.Need-entry-requires-6
-entry-requires-6 c κs = search needs
-
-entry-requires-7 : tie.Need-entry-requires-7
-entry-requires-7 c κs = search needs
-
-entry-requires-8 : tie.Need-entry-requires-8
-entry-requires-8 c κs = search needs
-
 returns : tie.Need-returns
 returns c p rule =
     let upper = c .before .before .before .before in
@@ -48,13 +24,5 @@ returns c p rule =
 pub shift32-spec : {M : Type 1} → statement M
 shift32-spec =
     tie.close
-    (tie.spec
-    entry-requires
-    entry-requires-2
-    entry-requires-3
-    entry-requires-4
-    entry-requires-5
-    entry-requires-6
-    entry-requires-7
-    entry-requires-8
-    returns)
+    (tie.spec (λ c κs. search needs) (λ c κs. search needs) (λ c κs. search needs) (λ c κs. search needs) (λ c κs. search needs)
+    (λ c κs. search needs) (λ c κs. search needs) (λ c κs. search needs) returns)

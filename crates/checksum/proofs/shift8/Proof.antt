@@ -6,12 +6,6 @@ use Rattle.checksum.proofs.Tables.{low-bits}
 use Rattle.checksum.proofs.shift8.Statement.{statement}
 use Rattle.checksum.proofs.shift8.Tie as tie
 
-entry-requires : tie.Need-entry-requires
-entry-requires c κs = search needs
-
-entry-requires-2 : tie.Need-entry-requires-2
-entry-requires-2 c κs = search needs
-
 returns : tie.Need-returns
 unfolding shifts
 returns c p rule =
@@ -19,4 +13,4 @@ returns c p rule =
     low-bits p 4 4 x (c .before .entry .ensures p rule) (low-bits p 4 0 (x / 16) (c .entry2 .ensures p rule) refl)
 
 pub shift8-spec : {M : Type 1} → statement M
-shift8-spec = tie.close (tie.spec entry-requires entry-requires-2 returns)
+shift8-spec = tie.close (tie.spec (λ c κs. search needs) (λ c κs. search needs) returns)

@@ -4,52 +4,19 @@ use mathlib.Core.Path.{_≡_, refl}
 use mathlib.Core.List.{List}
 use native.Mathlib.Omega.{arith}
 use lib.ListN.{length, getD, take, drop}
-use Rattle.runs.specs.Number.{number}
+use Rattle.runs.specs.Number.{littleEndian}
 use Rattle.runs.proofs.Bytes.{drop-next}
 use Rattle.checksum.proofs.word.Statement.{statement}
 use Rattle.checksum.proofs.word.Tie as tie
 
 -- the number of n + 1 bytes from a place on is that of the n behind the first, and the first
-number-next : (s : List ℕ) (at next n : ℕ) → at < length s → next ≡ at + 1 → number (take (suc n) (drop at s)) ≡ number (take n (drop next s)) * 256 + getD s at 0
-unfolding number
+number-next : (s : List ℕ) (at next n : ℕ) → at < length s → next ≡ at + 1 → littleEndian (take (suc n) (drop at s)) ≡ littleEndian (take n (drop next s)) * 256 + getD s at 0
+unfolding littleEndian
 number-next s at next n h e = rw (drop-next s at h, e)
 
-last : (l : List ℕ) → number (take 0 l) ≡ 0
-unfolding number
+last : (l : List ℕ) → littleEndian (take 0 l) ≡ 0
+unfolding littleEndian
 last l = refl
-
-add-pair : tie.Need-add-pair
-add-pair c = search needs
-
-shared-slice-read-pair : tie.Need-shared-slice-read-pair
-shared-slice-read-pair c = search needs
-
-add-pair-2 : tie.Need-add-pair-2
-add-pair-2 c = search needs
-
-shared-slice-read-pair-2 : tie.Need-shared-slice-read-pair-2
-shared-slice-read-pair-2 c = search needs
-
-pair-requires : tie.Need-pair-requires
-pair-requires c κs = search needs
-
-mul-result : tie.Need-mul-result
-mul-result c = search needs
-
-shared-slice-read-pair-3 : tie.Need-shared-slice-read-pair-3
-shared-slice-read-pair-3 c = search needs
-
-add-pair-3 : tie.Need-add-pair-3
-add-pair-3 c = search needs
-
-shared-slice-read-pair-4 : tie.Need-shared-slice-read-pair-4
-shared-slice-read-pair-4 c = search needs
-
-pair-requires-2 : tie.Need-pair-requires-2
-pair-requires-2 c κs = search needs
-
-add-result : tie.Need-add-result
-add-result c = search needs
 
 returns : tie.Need-returns
 returns c =
@@ -70,16 +37,5 @@ returns c =
 pub word-spec : {M : Type 1} → statement M
 word-spec =
     tie.close
-    (tie.spec
-    add-pair
-    shared-slice-read-pair
-    add-pair-2
-    shared-slice-read-pair-2
-    pair-requires
-    mul-result
-    shared-slice-read-pair-3
-    add-pair-3
-    shared-slice-read-pair-4
-    pair-requires-2
-    add-result
-    returns)
+    (tie.spec (λ c. search needs) (λ c. search needs) (λ c. search needs) (λ c. search needs) (λ c κs. search needs) (λ c. search needs)
+    (λ c. search needs) (λ c. search needs) (λ c. search needs) (λ c κs. search needs) (λ c. search needs) returns)

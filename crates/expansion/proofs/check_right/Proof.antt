@@ -1,8 +1,9 @@
+use Prim.Native.Nat.{_-_}
 use native.Mathlib.Omega.{arith}
-use mathlib.Core.Path.{sym, _∙_}
+use mathlib.Core.Path.{_≡_, sym, _∙_}
 use lib.Dec.{eqb}
-use lib.Seq.{length-take-le}
-use Rattle.expansion.proofs.Store.{check-here}
+use lib.ListN.{length, take, drop, length-drop}
+use lib.Seq.{length-take-le, take-all}
 use borrow.Author.Needs.{needs}
 use Rattle.expansion.proofs.check_right.Statement.{statement}
 use Rattle.expansion.proofs.check_right.Tie as tie
@@ -22,8 +23,9 @@ crc32-requires c κs = search needs
 returns : tie.Need-returns
 returns c =
     let s = c .before .before .before .before in
-    let a = s .args in
-    (λ i. eqb (c .before .before .number-at .ensures i) (c .crc32 .ensures i)) ∙ sym (check-here (a .store .now) (a .count) (s .pre .1) (s .pre .0))
+    let g = s .args .gathered .now in
+    let all : take 4 (drop (length g - 4) g) ≡ drop (length g - 4) g = take-all 4 (drop (length g - 4) g) (simp length-drop (omega arith)) in
+    (λ i. eqb (c .before .before .number-at .ensures i) (c .crc32 .ensures i)) ∙ rw all
 
 pub check-right-spec : {M : Type 1} → statement M
 check-right-spec =

@@ -6,35 +6,13 @@ use borrow.Author.Needs.{needs}
 use Rattle.host.proofs.linebox_expansion_read.Statement.{statement}
 use Rattle.host.proofs.linebox_expansion_read.Tie as tie
 
-fresh-requires : tie.Need-fresh-requires
-fresh-requires c κs = search needs
-
-receive-requires : tie.Need-receive-requires
-receive-requires c κs = search needs
-
-is-exact-requires : tie.Need-is-exact-requires
-is-exact-requires c κs = search needs
-
-expansion-answer-requires : tie.Need-expansion-answer-requires
-expansion-answer-requires c κs = search needs
-
-same-length : tie.Need-same-length
-same-length c = search needs
-
 returns : tie.Need-returns
 returns c =
     let a = c .before .before .before .before .before .before .before .before .before .args in
     let got = c .before .before .before .before .receive in
     read-is Expansion.link expansionCode (now (a .frame)) (now (a .store)) _ _ _ _ (got .ensures) (c .before .before .before .before .before .before .fresh .ensures) (c .before .is-exact .ensures)
-    (c .expansion-answer .ensures)
+    (c .encode-expansion .ensures)
 
 pub linebox-expansion-read-spec : {M : Type 1} → statement M
 linebox-expansion-read-spec =
-    tie.close
-    (tie.spec
-    fresh-requires
-    receive-requires
-    is-exact-requires
-    expansion-answer-requires
-    same-length
-    returns)
+    tie.close (tie.spec (λ c κs. search needs) (λ c κs. search needs) (λ c κs. search needs) (λ c κs. search needs) (λ c. search needs) returns)

@@ -6,24 +6,18 @@ use borrow.Author.Needs.{needs}
 use Rattle.host.proofs.linebox_expansion_write.Statement.{statement}
 use Rattle.host.proofs.linebox_expansion_write.Tie as tie
 
-write-requires : tie.Need-write-requires
-write-requires c κs = search needs
-
-same-length : tie.Need-same-length
-same-length c = search needs
-
 returns : tie.Need-returns
 returns c =
     let a = c .before .before .before .before .before .before .before .args in
     answer-is Expansion.link expansion-bound (record { id = a .id; kind = a .kind; repeat = a .repeat; address = a .address; payload = now (a .«data») })
-    (now (a .out)) (c .before .before .before .write .ensures) _ (record { sfits = c .signed-of .ok }) (c .signed-of .ensures)
+    (now (a .out)) (c .before .before .before .write .ensures) _ (record { sfits = c .int32-of .ok }) (c .int32-of .ensures)
 
-signed-of-requires : tie.Need-signed-of-requires
-signed-of-requires c κs =
+int32-of-requires : tie.Need-int32-of-requires
+int32-of-requires c κs =
     let a = c .before .before .before .before .before .before .args in
     answer-short Expansion.link expansion-bound (record { id = a .id; kind = a .kind; repeat = a .repeat; address = a .address; payload = now (a .«data») })
     (now (a .out)) (c .before .before .write .ensures)
 
 pub linebox-expansion-write-spec : {M : Type 1} → statement M
 linebox-expansion-write-spec =
-    tie.close (tie.spec write-requires signed-of-requires same-length returns)
+    tie.close (tie.spec (λ c κs. search needs) int32-of-requires (λ c. search needs) returns)

@@ -6,25 +6,19 @@ use borrow.Author.Needs.{needs}
 use Rattle.host.proofs.linebox_pcs_write.Statement.{statement}
 use Rattle.host.proofs.linebox_pcs_write.Tie as tie
 
-write-requires : tie.Need-write-requires
-write-requires c κs = search needs
-
-same-length : tie.Need-same-length
-same-length c = search needs
-
 returns : tie.Need-returns
 returns c =
     let a = c .before .before .before .before .before .before .before .args in
     answer-is Pcs.link pcs-bound
     (record { receiver = a .receiver; sender = a .sender; kind = a .kind; number = a .number; sender-port = a .sender-port; receiver-port = a .receiver-port; payload = now (a .«data») })
-    (now (a .out)) (c .before .before .before .write .ensures) _ (record { sfits = c .signed-of .ok }) (c .signed-of .ensures)
+    (now (a .out)) (c .before .before .before .write .ensures) _ (record { sfits = c .int32-of .ok }) (c .int32-of .ensures)
 
-signed-of-requires : tie.Need-signed-of-requires
-signed-of-requires c κs =
+int32-of-requires : tie.Need-int32-of-requires
+int32-of-requires c κs =
     let a = c .before .before .before .before .before .before .args in
     answer-short Pcs.link pcs-bound
     (record { receiver = a .receiver; sender = a .sender; kind = a .kind; number = a .number; sender-port = a .sender-port; receiver-port = a .receiver-port; payload = now (a .«data») })
     (now (a .out)) (c .before .before .write .ensures)
 
 pub linebox-pcs-write-spec : {M : Type 1} → statement M
-linebox-pcs-write-spec = tie.close (tie.spec write-requires signed-of-requires same-length returns)
+linebox-pcs-write-spec = tie.close (tie.spec (λ c κs. search needs) int32-of-requires (λ c. search needs) returns)

@@ -8,7 +8,7 @@ use lib.ListN.{length, take, drop, length-take, length-drop, take-append-drop, d
 use lib.Seq.{drop-drop, drop-append-le}
 use Rattle.runs.proofs.Run.{Run, run-start, run-part, run-drop, run-end}
 use borrow.Author.Needs.{needs}
-use Rattle.packing.specs.Unpacked.{unpackedGroup, dataOf}
+use Rattle.packing.specs.Unpacked.{unpackedGroup, dataInGroups}
 use lib.Seq.{sets}
 use Rattle.packing.proofs.Group.{group-append, length-unpackedGroup}
 use Rattle.packing.proofs.Lengths.{dataOf-nil, dataOf-next, length-dataOf}
@@ -23,7 +23,7 @@ part d from count = take count (drop from d)
 -- the first n data bytes are stored from place 0 on, and those of the packed bytes from e on are still to come
 abbrev Inv-loop : tie.InvT-loop
 Inv-loop store₀ from count n₀ e₀ store n e =
-    (e ≤ count) × (n ≤ e) × Run store₀ 0 (dataOf (part store₀ from count)) n (dataOf (drop e (part store₀ from count))) store
+    (e ≤ count) × (n ≤ e) × Run store₀ 0 (dataInGroups (part store₀ from count)) n (dataInGroups (drop e (part store₀ from count))) store
 
 abbrev μ-loop : tie.MeasureT-loop
 μ-loop store₀ from count n₀ e₀ store n e = count - e
@@ -44,11 +44,11 @@ module _ (d : List ℕ) (from count e k : ℕ) (h : from + count ≤ length d) (
   group-length : length (unpackedGroup k (drop (from + e) d)) ≡ k
   group-length = length-unpackedGroup k (drop (from + e) d) (simp length-drop (omega arith))
 
-  next : dataOf (drop e (part d from count)) ≡ unpackedGroup k (drop (from + e) d) ++ dataOf (drop (e + k + 1) (part d from count))
+  next : dataInGroups (drop e (part d from count)) ≡ unpackedGroup k (drop (from + e) d) ++ dataInGroups (drop (e + k + 1) (part d from count))
   next =
       let n : e + suc k ≡ e + k + 1 = omega arith in
       dataOf-next k (drop e (part d from count)) (omega (arith, long))
-      ∙ ap₂ (λ (g r : List ℕ). g ++ dataOf r) (sym here) (drop-drop (suc k) e (part d from count) ∙ ap (λ (i : ℕ). drop i (part d from count)) n)
+      ∙ ap₂ (λ (g r : List ℕ). g ++ dataInGroups r) (sym here) (drop-drop (suc k) e (part d from count) ∙ ap (λ (i : ℕ). drop i (part d from count)) n)
 
 abbrev S : tie.At-loop Inv-loop μ-loop → tie.Start Inv-loop μ-loop
 S a = a .before .before
@@ -113,7 +113,7 @@ returns : tie.Need-returns Inv-loop μ-loop
 returns c =
     let a = c .before in
     let p : List ℕ = part (S a .args .store .now) (S a .args .from) (S a .args .count) in
-    let none : dataOf (drop (a .loop .e) p) ≡ [] = ap dataOf (drop-of-length-le p {i = a .loop .e} (simp (length-take, length-drop) (omega arith))) ∙ dataOf-nil in
+    let none : dataInGroups (drop (a .loop .e) p) ≡ [] = ap dataInGroups (drop-of-length-le p {i = a .loop .e} (simp (length-take, length-drop) (omega arith))) ∙ dataOf-nil in
     (omega (arith, ap length none), run-end (a .loop .inv .2) none)
 
 pub unpack-all-spec : {M : Type 1} → statement M

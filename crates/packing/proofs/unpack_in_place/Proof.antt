@@ -6,7 +6,7 @@ use borrow.Author.Needs.{needs}
 use lib.ListN.{length, take, drop}
 use lib.Seq.{sets}
 use Rattle.framing.specs.Answer.{done}
-use Rattle.packing.specs.Unpacked.{dataOf, wellPacked}
+use Rattle.packing.specs.Unpacked.{dataInGroups, wellPacked}
 use Rattle.packing.proofs.Inside.{inside}
 use Rattle.packing.proofs.Contract.{unpacked-done, unpacked-refused, well-unpacks, badly-unpacks}
 use Rattle.packing.proofs.unpack_in_place.Statement.{statement}
@@ -70,9 +70,9 @@ returns c =
     let t = k .before .before .before in
     let m = t .before .before .before in
     let s = m .before .before .before in
-    ap₂ (λ (n : ℕ) (l : List ℕ). (done n, l)) (k .unpack-all .ensures .0 ∙ ap (λ (p : List ℕ). length (dataOf p)) (part m))
-    (k .unpack-all .ensures .1 ∙ ap (λ (p : List ℕ). sets (s .args .store .now) 0 (dataOf p)) (part m))
-    ∙ sym (unpacked-done (s .args .store .now) (s .args .from) (s .args .count) (dataOf (P s)) (well-unpacks (P s) (tested t ∙ k .before .before .if1 .taken)))
+    ap₂ (λ (n : ℕ) (l : List ℕ). (done n, l)) (k .unpack-all .ensures .0 ∙ ap (λ (p : List ℕ). length (dataInGroups p)) (part m))
+    (k .unpack-all .ensures .1 ∙ ap (λ (p : List ℕ). sets (s .args .store .now) 0 (dataInGroups p)) (part m))
+    ∙ sym (unpacked-done (s .args .store .now) (s .args .from) (s .args .count) (dataInGroups (P s)) (well-unpacks (P s) (tested t ∙ k .before .before .if1 .taken)))
 
 same-length-2 : tie.Need-same-length-2
 same-length-2 c = search needs

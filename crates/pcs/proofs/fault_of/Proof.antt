@@ -3,11 +3,10 @@ use mathlib.Core.Path.{sym, _∙_}
 use native.Mathlib.Omega.{arith}
 use lib.ListN.{length, take}
 use lib.Seq.{length-take-le}
-use borrow.Author.Tests.{lt-ltb, le-ltb, eq-eqb, ne-eqb}
+use borrow.Author.Tests.{lt-ltb, le-ltb, eq-eqb, ne-eqb, not-true, not-false}
 use borrow.Author.Needs.{needs}
 use Rattle.checksum.specs.Sum.{sumOf}
-use Rattle.pcs.specs.Rules.{stated}
-use Rattle.pcs.specs.Steps.{faultOf}
+use Rattle.pcs.specs.Rules.{stated, faultOf}
 use Rattle.pcs.proofs.fault_of.Statement.{statement}
 use Rattle.pcs.proofs.fault_of.Tie as tie
 
@@ -43,12 +42,23 @@ sum-requires c κs = search needs
 returns-3 : tie.Need-returns-3
 unfolding faultOf
 returns-3 c =
-    let g = c .before .before .before .before .before .before .before .before .before .args .gathered .now in
-    let s = ne-eqb _ (sumOf (take (length g - 1) g)) (λ e. c .if3 .taken (e ∙ sym (c .before .sum .ensures))) in
-    rw (le-ltb _ 9 (c .before .before .before .before .before .before .before .if1 .left), sym (c .before .before .before .before .before .asks-crc .ensures) ∙ c .before .before .before .before .if2 .left, s)
+    let a = c .before .before .before .before in
+    let l = a .before .before .before in
+    let g = l .before .before .args .gathered .now in
+    rw (le-ltb _ 9 (l .if1 .left), sym (a .before .asks-crc .ensures) ∙ a .if2 .left, ne-eqb _ (sumOf (take (length g - 1) g)) (λ e. c .if3 .taken (e ∙ sym (c .before .sum .ensures))))
 
 fields-ok-requires : tie.Need-fields-ok-requires
 fields-ok-requires c κs = search needs
+
+returns-4 : tie.Need-returns-4
+unfolding faultOf
+returns-4 c =
+    let s = c .before .before in
+    let a = s .before .before .before .before in
+    let l = a .before .before .before in
+    let g = l .before .before .args .gathered .now in
+    let sum = eq-eqb _ (sumOf (take (length g - 1) g)) (s .if3 .left ∙ s .before .sum .ensures) in
+    rw (le-ltb _ 9 (l .if1 .left), sym (a .before .asks-crc .ensures) ∙ a .if2 .left, sum, sym (c .before .fields-ok .ensures) ∙ not-true _ (c .if4 .taken))
 
 shared-slice-read-stated-by : tie.Need-shared-slice-read-stated-by
 shared-slice-read-stated-by c = search needs
@@ -59,28 +69,29 @@ shared-slice-read-stated-by-2 c = search needs
 stated-by-requires : tie.Need-stated-by-requires
 stated-by-requires c κs = search needs
 
-returns-4 : tie.Need-returns-4
-unfolding faultOf
-returns-4 c =
-    let g = c .before .before .before .before .before .before .before .before .before .before .before .before .before .before .before .args .gathered .now in
-    let s = eq-eqb _ (sumOf (take (length g - 1) g)) (c .before .before .before .before .before .before .if3 .left ∙ c .before .before .before .before .before .before .before .sum .ensures) in
-    let n = eq-eqb (stated g) (length g - 9) (sym (c .before .stated-by .ensures) ∙ c .if5 .taken) in
-    rw (le-ltb _ 9 (c .before .before .before .before .before .before .before .before .before .before .before .before .before .if1 .left), sym (c .before .before .before .before .before .before .before .before .before .before .before .asks-crc .ensures) ∙ c .before .before .before .before .before .before .before .before .before .before .if2 .left, s, sym (c .before .before .before .before .before .fields-ok .ensures) ∙ c .before .before .before .before .if4 .taken, n)
-
 returns-5 : tie.Need-returns-5
 unfolding faultOf
 returns-5 c =
-    let g = c .before .before .before .before .before .before .before .before .before .before .before .before .before .before .before .args .gathered .now in
-    let s = eq-eqb _ (sumOf (take (length g - 1) g)) (c .before .before .before .before .before .before .if3 .left ∙ c .before .before .before .before .before .before .before .sum .ensures) in
-    let n = ne-eqb (stated g) (length g - 9) (λ e. c .if5 .left (c .before .stated-by .ensures ∙ e)) in
-    rw (le-ltb _ 9 (c .before .before .before .before .before .before .before .before .before .before .before .before .before .if1 .left), sym (c .before .before .before .before .before .before .before .before .before .before .before .asks-crc .ensures) ∙ c .before .before .before .before .before .before .before .before .before .before .if2 .left, s, sym (c .before .before .before .before .before .fields-ok .ensures) ∙ c .before .before .before .before .if4 .taken, n)
+    let f = c .before .before .before .before in
+    let s = f .before .before in
+    let a = s .before .before .before .before in
+    let l = a .before .before .before in
+    let g = l .before .before .args .gathered .now in
+    let sum = eq-eqb _ (sumOf (take (length g - 1) g)) (s .if3 .left ∙ s .before .sum .ensures) in
+    let present = ne-eqb (stated g) (length g - 9) (λ e. c .if5 .taken (c .before .stated-by .ensures ∙ e)) in
+    rw (le-ltb _ 9 (l .if1 .left), sym (a .before .asks-crc .ensures) ∙ a .if2 .left, sum, sym (f .before .fields-ok .ensures) ∙ not-false _ (f .if4 .left), present)
 
 returns-6 : tie.Need-returns-6
 unfolding faultOf
 returns-6 c =
-    let g = c .before .before .before .before .before .before .before .before .before .before .before .args .gathered .now in
-    let s = eq-eqb _ (sumOf (take (length g - 1) g)) (c .before .before .if3 .left ∙ c .before .before .before .sum .ensures) in
-    rw (le-ltb _ 9 (c .before .before .before .before .before .before .before .before .before .if1 .left), sym (c .before .before .before .before .before .before .before .asks-crc .ensures) ∙ c .before .before .before .before .before .before .if2 .left, s, sym (c .before .fields-ok .ensures) ∙ c .if4 .left)
+    let f = c .before .before .before .before in
+    let s = f .before .before in
+    let a = s .before .before .before .before in
+    let l = a .before .before .before in
+    let g = l .before .before .args .gathered .now in
+    let sum = eq-eqb _ (sumOf (take (length g - 1) g)) (s .if3 .left ∙ s .before .sum .ensures) in
+    let present = eq-eqb (stated g) (length g - 9) (sym (c .before .stated-by .ensures) ∙ c .if5 .left) in
+    rw (le-ltb _ 9 (l .if1 .left), sym (a .before .asks-crc .ensures) ∙ a .if2 .left, sum, sym (f .before .fields-ok .ensures) ∙ not-false _ (f .if4 .left), present)
 
 pub fault-of-spec : {M : Type 1} → statement M
 fault-of-spec =
@@ -96,9 +107,9 @@ fault-of-spec =
     sum-requires
     returns-3
     fields-ok-requires
+    returns-4
     shared-slice-read-stated-by
     shared-slice-read-stated-by-2
     stated-by-requires
-    returns-4
     returns-5
     returns-6)

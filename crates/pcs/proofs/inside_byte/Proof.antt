@@ -2,7 +2,7 @@ use mathlib.Core.Path.{refl}
 use lib.ListN.{take}
 use borrow.Author.Tests.{eq-eqb, ne-eqb}
 use borrow.Author.Needs.{needs}
-use Rattle.pcs.proofs.Cut.{judge-noise}
+use Rattle.pcs.proofs.OnByte.{judge-noise}
 use Rattle.pcs.proofs.inside_byte.Statement.{statement}
 use Rattle.pcs.proofs.inside_byte.Tie as tie
 

@@ -3,14 +3,14 @@ use Prim.Native.Nat.{_+_, _-_, _≤_, _<_, _^_, min}
 use mathlib.Core.Path.{_≡_, sym, ap₂, _∙_}
 use native.Mathlib.Omega.{arith}
 use lib.ListN.{drop, length}
-use Rattle.runs.specs.Number.{number}
+use Rattle.runs.specs.Number.{littleEndian}
 use Rattle.runs.proofs.Number.{part, part-length, part-start, part-step, part-lt}
 use Rattle.runs.proofs.number_at.Statement.{statement}
 use Rattle.runs.proofs.number_at.Tie as tie
 
 -- k lies within the bytes that are read, the last of them first; n is the number that those from k on stand for
 abbrev Inv-loop : tie.InvT-loop
-Inv-loop s at size n₀ k₀ n k = (k ≤ length (part s at (min size 4))) × (n ≡ number (drop k (part s at (min size 4))))
+Inv-loop s at size n₀ k₀ n k = (k ≤ length (part s at (min size 4))) × (n ≡ littleEndian (drop k (part s at (min size 4))))
 
 abbrev μ-loop : tie.MeasureT-loop
 μ-loop s at size n₀ k₀ n k = k

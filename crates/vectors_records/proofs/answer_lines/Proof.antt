@@ -1,18 +1,16 @@
 use borrow.Author.Needs.{needs}
 use Prim.Native.Nat.{_≤_, _-_}
+use mathlib.Core.Path.{_≡_}
 use lib.ListN.{length}
 use Rattle.vectors_records.proofs.answer_lines.Statement.{statement}
 use Rattle.vectors_records.proofs.answer_lines.Tie as tie
 
--- at lies within the text
+-- at lies within the text; the memory for what is kept stays as long
 abbrev Inv-loop : tie.InvT-loop
-Inv-loop text ends₀ at₀ ends at = at ≤ length text
+Inv-loop text kept₀ last₀ at₀ kept last at = (at ≤ length text) × (length kept ≡ length kept₀)
 
 abbrev μ-loop : tie.MeasureT-loop
-μ-loop text ends₀ at₀ ends at = length text - at
-
-fresh-requires : tie.Need-fresh-requires Inv-loop μ-loop
-fresh-requires c κs = search needs
+μ-loop text kept₀ last₀ at₀ kept last at = length text - at
 
 loop-holds : tie.Need-loop-holds Inv-loop μ-loop
 loop-holds c = search needs
@@ -32,6 +30,9 @@ part-answer-line-end c = search needs
 answer-line-requires : tie.Need-answer-line-requires Inv-loop μ-loop
 answer-line-requires c κs = search needs
 
+same-length : tie.Need-same-length Inv-loop μ-loop
+same-length c = search needs
+
 returns : tie.Need-returns Inv-loop μ-loop
 returns c = search needs
 
@@ -44,6 +45,9 @@ loop-less c = search needs
 loop-again : tie.Need-loop-again Inv-loop μ-loop
 loop-again c = search needs
 
+same-length-2 : tie.Need-same-length-2 Inv-loop μ-loop
+same-length-2 c = search needs
+
 returns-2 : tie.Need-returns-2 Inv-loop μ-loop
 returns-2 c = search needs
 
@@ -53,15 +57,16 @@ answer-lines-spec =
     (tie.spec
     Inv-loop
     μ-loop
-    fresh-requires
     loop-holds
     find-requires
     sub-answer-line
     part-answer-line-start
     part-answer-line-end
     answer-line-requires
+    same-length
     returns
     add-at
     loop-less
     loop-again
+    same-length-2
     returns-2)

@@ -1,10 +1,10 @@
 //! The gate exchange: both ends, and the chain address.
 
-use crate::gate::{self, Answer, Answering, Asking, Reply};
+use crate::gate::{self, Answer, Asking, Reply, Responder};
 
 #[test]
 fn asking_end() {
-    let (asking, answer) = gate::start(Asking::default(), 50);
+    let (asking, answer) = gate::start(gate::fresh(), 50);
     assert_eq!(answer, Answer::Send { id: 0, repeat: 0 });
     assert_eq!(gate::start(asking, 60), (asking, Answer::Refused(14)));
     assert_eq!(gate::tick(asking, 149), (asking, Answer::Nothing));
@@ -20,6 +20,7 @@ fn asking_end() {
     assert_eq!(answer, Answer::Send { id: 0, repeat: 3 });
     let (asking, answer) = gate::arrival(asking, 2, 0, 151);
     assert_eq!(answer, Answer::GivenUp);
+    assert_eq!(asking, Asking { mode: 0, id: 0, repeat: 3, sent: 150 });
     assert_eq!(gate::arrival(asking, 1, 0, 152), (asking, Answer::Nothing));
     assert_eq!(gate::tick(asking, 1 << 31), (asking, Answer::Nothing));
     let (asking, answer) = gate::start(asking, u32::MAX - 10);
@@ -28,6 +29,7 @@ fn asking_end() {
     assert_eq!(gate::tick(asking, 89).1, Answer::Send { id: 1, repeat: 1 });
     let (mut asking, answer) = gate::arrival(asking, 1, 1, 0);
     assert_eq!(answer, Answer::Done);
+    assert_eq!(asking, Asking { mode: 0, id: 1, repeat: 0, sent: u32::MAX - 10 });
     for id in (2..=255).chain(0..=1) {
         let (waiting, answer) = gate::start(asking, 0);
         assert_eq!(answer, Answer::Send { id, repeat: 0 });
@@ -41,8 +43,8 @@ fn asking_end() {
 }
 
 #[test]
-fn answering_end_and_chain() {
-    let fresh = Answering::default();
+fn responding_end_and_chain() {
+    let fresh = Responder::default();
     let acknowledged = |id, address| Some(Reply { id, kind: 1, repeat: 0, address });
     // A first request with repeat 1 and id 0 is handed out: nothing was before.
     let (state, reply, handed) = gate::accepted(fresh, false, 0, 0, 1, 9);
@@ -56,10 +58,14 @@ fn answering_end_and_chain() {
     let (state, _, handed) = gate::accepted(state, true, 0, 0, 3, 9);
     assert!(handed);
     assert_eq!(gate::accepted(state, true, 7, 1, 0, 9), (state, None, false));
-    assert_eq!(gate::refused(false, 8, &[5, 9, 9, 7]), Some(Reply { id: 5, kind: 2, repeat: 0, address: 0 }));
-    assert_eq!(gate::refused(true, 8, &[5, 9, 9, 7]), Some(Reply { id: 5, kind: 2, repeat: 0, address: 7 }));
-    assert_eq!(gate::refused(true, 9, &[5, 9, 9, 7]), None);
-    assert_eq!(gate::refused(true, 8, &[5, 9, 9]), None);
+    let check_error = |address| (state, Some(Reply { id: 5, kind: 2, repeat: 0, address }), false);
+    assert_eq!(gate::refused(state, false, 8, &[5, 9, 9, 7]), check_error(0));
+    assert_eq!(gate::refused(state, true, 8, &[5, 9, 9, 7]), check_error(7));
+    assert_eq!(gate::refused(state, true, 9, &[5, 9, 9, 7]), (state, None, false));
+    for length in 0..4 {
+        assert_eq!(gate::refused(state, true, 8, &[5, 9, 9, 7][..length]), (state, None, false));
+    }
+    assert_eq!(gate::quiet(state), (state, None, false));
 
     assert_eq!(gate::down(0), Err(15));
     assert_eq!(gate::down(1), Ok(0));

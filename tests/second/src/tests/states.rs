@@ -19,18 +19,18 @@ fn odd_state<L: Link>(state: State) {
     }
 }
 
-fn common_odd_states<L: Link>(known: u32, hunting: u32) {
-    let size = L::SIZE as u32;
+fn common_odd_states<L: Link>(known: u64, hunting: u64) {
+    let size = L::SIZE as u64;
     odd_state::<L>(State { mode: known, ..State::default() });
-    odd_state::<L>(State { mode: u32::MAX, ..State::default() });
+    odd_state::<L>(State { mode: u64::MAX, ..State::default() });
     for mode in 0..known {
         odd_state::<L>(State { mode, count: size + 1, length: 1025, ..State::default() });
-        odd_state::<L>(State { mode, count: u32::MAX, length: 1025, ..State::default() });
+        odd_state::<L>(State { mode, count: u64::MAX, length: 1025, ..State::default() });
     }
     for mode in 0..hunting {
         odd_state::<L>(State { mode, count: 1, ..State::default() });
         // What stands in open, noise and (nothing gathered) length never gives 12.
-        let state = State { mode, count: 0, length: u32::MAX, open: 9, noise: 9 };
+        let state = State { mode, count: 0, length: u64::MAX, open: 9, noise: 9 };
         let mut short = vec![FILL; L::SIZE - 1];
         let received = stream::receive::<L>(&[], state, &mut short);
         assert_eq!(received, Received { used: 0, state, event: Event::Refused(1) });

@@ -61,8 +61,19 @@ fn states(s: &mut Section) {
         State { mode: 0, count: 1, ..State::default() },
         State { mode: 1, count: 1, ..State::default() },
     ]);
+    s.strange::<Dle>(&[0, 1], &[2, 3]);
     s.short::<Dle>();
     s.noise_goes_round::<Dle>();
+}
+
+/// What stands in the store was gathered, whoever put it there.
+fn put_in_the_store(s: &mut Section) {
+    for (bytes, rest) in [(&[1, 2, 2, 0x10][..], &[7, 0x10, 0x03][..]), (&[1, 2, 0, 0x10], &[0x10, 0x03])] {
+        s.hold([bytes, &[9; 255]].concat());
+        s.set(State { mode: 2, count: 4, ..State::default() });
+        s.receive::<Dle>(rest);
+        s.content();
+    }
 }
 
 fn cut(s: &mut Section) {
@@ -86,6 +97,7 @@ pub fn section() -> (Lines, Lines) {
     errors(&mut s);
     refusals(&mut s);
     states(&mut s);
+    put_in_the_store(&mut s);
     cut(&mut s);
     parts(&mut s);
     (s.lines, s.whole)

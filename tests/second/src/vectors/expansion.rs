@@ -85,6 +85,7 @@ fn states(s: &mut Section) {
         State { mode: 2, count: 1033, ..State::default() },
         State { mode: 0, count: 1, ..State::default() },
     ]);
+    s.strange::<Expansion>(&[0], &[1, 2]);
     s.short::<Expansion>();
     s.noise_goes_round::<Expansion>();
 }

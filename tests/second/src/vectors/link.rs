@@ -16,8 +16,8 @@ pub struct Section<'a> {
     with_length: bool,
     writer: Writer<'a>,
     pub frame: Vec<u8>,
-    state: State,
-    store: Vec<u8>,
+    pub state: State,
+    pub store: Vec<u8>,
 }
 
 impl<'a> Section<'a> {
@@ -67,12 +67,24 @@ impl<'a> Section<'a> {
         self.lines.add(&format!("fresh {room}"), "");
     }
 
+    /// A store of these bytes; the state stays.
+    pub fn hold(&mut self, store: Vec<u8>) {
+        self.lines.add(&format!("store {}", bytes_word(&store)), "");
+        self.store = store;
+    }
+
+    /// The whole store, to its last place.
+    pub fn content(&mut self) {
+        self.lines.add("content", &bytes_word(&self.store));
+    }
+
     pub fn set(&mut self, state: State) {
         self.state = state;
         self.lines.add(&format!("state {}", self.state_words()), "");
     }
 
-    pub fn receive_given<L: Link>(&mut self, piece: Given) {
+    /// How many bytes were used, and the event in words.
+    pub fn receive_given<L: Link>(&mut self, piece: Given) -> (usize, String) {
         let received = stream::receive::<L>(&piece.bytes, self.state, &mut self.store);
         self.state = received.state;
         let event = match received.event {
@@ -86,10 +98,11 @@ impl<'a> Section<'a> {
         let (used, state, store) = (received.used, self.state_words(), mix(&self.store));
         let call = format!("receive {}", piece.word);
         self.lines.add(&call, &format!("used {used} {event} state {state} store {store}"));
+        (used, event)
     }
 
-    pub fn receive<L: Link>(&mut self, piece: &[u8]) {
-        self.receive_given::<L>(given(piece));
+    pub fn receive<L: Link>(&mut self, piece: &[u8]) -> (usize, String) {
+        self.receive_given::<L>(given(piece))
     }
 
     /// The last frame written, on a fresh receiver.
@@ -125,6 +138,20 @@ impl<'a> Section<'a> {
             self.fresh(L::SIZE - 1);
             self.set(*state);
             self.receive::<L>(&[]);
+        }
+    }
+
+    /// Known states with numbers that no call leaves: `open` and `noise` about to go round,
+    /// four bytes of the store gathered in the modes that don't hunt.
+    pub fn strange<L: Link>(&mut self, hunting: &[u64], open: &[u64]) {
+        let (most, zero) = (u32::MAX, State::default());
+        for mode in hunting.iter().chain(open) {
+            let count = if open.contains(mode) { 4 } else { 0 };
+            for piece in [&[][..], &[1], &[0x10, 0x02], &[0x02, 7], &[0xFD, 7], &[0xFE], &[0xE3, 7], &[0xFF, 0x00, 7]] {
+                self.fresh(L::SIZE);
+                self.set(State { mode: *mode, count, open: most, noise: most, ..zero });
+                self.receive::<L>(piece);
+            }
         }
     }
 

@@ -58,8 +58,23 @@ fn states(s: &mut Section) {
         open(9, 1),
         open(1033, 1025),
     ]);
+    s.strange::<Mdu>(&[0], &[1]);
     s.short::<Mdu>();
     s.noise_goes_round::<Mdu>();
+}
+
+/// The length that the state keeps decides, not the one in the store; below six bytes none is kept.
+fn kept_lengths(s: &mut Section) {
+    for (count, length) in [(6, 1), (6, 1025), (8, 1), (1032, 1025), (5, 9_999_999_999), (1, 7)] {
+        s.fresh(Mdu::SIZE);
+        s.set(State { mode: 1, count, length, open: 0, noise: 0 });
+        s.receive::<Mdu>(&[1]);
+        s.receive::<Mdu>(&[2, 3]);
+    }
+    s.fresh(Mdu::SIZE);
+    s.set(State { length: 5, ..State::default() });
+    s.receive::<Mdu>(&[]);
+    s.receive::<Mdu>(&[1]);
 }
 
 fn cut(s: &mut Section) {
@@ -87,6 +102,7 @@ pub fn section() -> (Lines, Lines) {
     edges(&mut s);
     headers_and_checks(&mut s);
     states(&mut s);
+    kept_lengths(&mut s);
     cut(&mut s);
     parts(&mut s);
     (s.lines, s.whole)

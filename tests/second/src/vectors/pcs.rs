@@ -154,6 +154,7 @@ fn states(s: &mut Section) {
         State { mode: 1, count: 1181, ..State::default() },
         State { mode: 0, count: 1, ..State::default() },
     ]);
+    s.strange::<Pcs>(&[0], &[1]);
     s.short::<Pcs>();
     s.noise_goes_round::<Pcs>();
 }

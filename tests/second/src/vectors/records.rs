@@ -1,8 +1,7 @@
 //! Fare records: copying, elements, making, and views.
 
-use super::text::{answer_word, bytes_word, filled, mix, section, value_word, words, Lines};
-use crate::listing::hex;
-use crate::record;
+use super::text::{answer_word, filled, given, mix, section, value_word, words, Given, Lines};
+use crate::record::{self, View};
 
 const PAYLOADS: [&[u8]; 20] = [
     &[2, 0, 0, 1, 0, 0x64, 0x96],
@@ -28,31 +27,76 @@ const PAYLOADS: [&[u8]; 20] = [
     &[1, 0xFF, 0xFF, 1, 0, 1],
 ];
 
-fn copy_lines(lines: &mut Lines, payload: &[u8], room: usize) {
-    let mut fares: Vec<u32> = (1..=room as u32).collect();
-    let mut signed_fares: Vec<i32> = (1..=room as i32).collect();
-    let answer = |result: Result<usize, u8>| match result {
+/// Each type with its element size and the most that address plus count may be.
+pub const TYPES: [(u8, usize, usize); 5] = [(1, 1, 2000), (2, 2, 1000), (3, 2, 1000), (4, 4, 500), (5, 4, 500)];
+
+/// A head with these elements behind it, well formed or not.
+pub fn payload_of(number: u8, address: u16, count: u16, elements: &[u8]) -> Vec<u8> {
+    [&[number], &address.to_le_bytes()[..], &count.to_le_bytes(), elements].concat()
+}
+
+/// Most elements that a whole length of 1,024 leaves room for.
+pub fn most(size: usize) -> usize {
+    1019 / size
+}
+
+/// Keeps these bytes for the word `frame`.
+pub fn kept(lines: &mut Lines, payload: &[u8]) -> Given {
+    lines.add(&format!("keep {}", given(payload).word), "");
+    Given { word: String::from("frame"), bytes: payload.to_vec() }
+}
+
+fn count_word(result: Result<usize, u8>) -> String {
+    match result {
         Ok(count) => format!("count {count}"),
         Err(number) => format!("refused {number}"),
+    }
+}
+
+pub fn copy_line(lines: &mut Lines, signed: bool, payload: &Given, room: usize) {
+    let (sign, answer, places);
+    if signed {
+        let mut fares: Vec<i32> = (1..=room as i32).collect();
+        answer = count_word(record::copy_signed(&payload.bytes, &mut fares));
+        (sign, places) = ("signed", words(&fares));
+    } else {
+        let mut fares: Vec<u32> = (1..=room as u32).collect();
+        answer = count_word(record::copy_unsigned(&payload.bytes, &mut fares));
+        (sign, places) = ("unsigned", words(&fares));
+    }
+    lines.add(&format!("copy {sign} {} room {room}", payload.word), &format!("{answer} places {places}"));
+}
+
+pub fn element_line(lines: &mut Lines, signed: bool, payload: &Given, number: usize) {
+    let (sign, answer) = if signed {
+        ("signed", value_word(record::element_signed(&payload.bytes, number)))
+    } else {
+        ("unsigned", value_word(record::element_unsigned(&payload.bytes, number)))
     };
-    let word = bytes_word(payload);
-    let result = answer(record::copy_unsigned(payload, &mut fares));
-    lines.add(&format!("copy unsigned {word} room {room}"), &format!("{result} places {}", words(&fares)));
-    let result = answer(record::copy_signed(payload, &mut signed_fares));
-    lines.add(&format!("copy signed {word} room {room}"), &format!("{result} places {}", words(&signed_fares)));
+    lines.add(&format!("element {sign} {} {number}", payload.word), &answer);
 }
 
-fn element_lines(lines: &mut Lines, payload: &[u8], number: usize) {
-    let word = bytes_word(payload);
-    let unsigned = value_word(record::element_unsigned(payload, number));
-    lines.add(&format!("element unsigned {word} {number}"), &unsigned);
-    let signed = value_word(record::element_signed(payload, number));
-    lines.add(&format!("element signed {word} {number}"), &signed);
+pub fn view_line(lines: &mut Lines, payload: &Given) {
+    let answer = match record::view(&payload.bytes) {
+        Ok(view) => format!("type {} count {}", view.number, view.count),
+        Err(number) => format!("refused {number}"),
+    };
+    lines.add(&format!("view {}", payload.word), &answer);
 }
 
-/// The section's makers of records.
-struct Make {
-    lines: Lines,
+pub fn view_element_line(lines: &mut Lines, signed: bool, payload: &Given, number: u8, count: usize, element: usize) {
+    let view = View { payload: &payload.bytes, number, count };
+    let (sign, answer) = if signed {
+        ("signed", value_word(view.element_signed(element)))
+    } else {
+        ("unsigned", value_word(view.element_unsigned(element)))
+    };
+    lines.add(&format!("view-element {sign} {} {number} {count} {element}", payload.word), &answer);
+}
+
+/// Lines of records that are made.
+pub struct Make {
+    pub lines: Lines,
 }
 
 impl Make {
@@ -66,21 +110,21 @@ impl Make {
         self.lines.add(&call, &format!("{answer} memory {}", mix(&out)));
     }
 
-    fn unsigned(&mut self, number: u8, address: u16, fares: &[u32], room: usize) {
+    pub fn unsigned(&mut self, number: u8, address: u16, fares: &[u32], room: usize) {
         let called = format!("unsigned {number} {address}");
         self.made(called, fares_words(fares), room, &|out| record::write_unsigned(number, address, fares, out));
     }
 
-    fn signed(&mut self, number: u8, address: u16, fares: &[i32], room: usize) {
+    pub fn signed(&mut self, number: u8, address: u16, fares: &[i32], room: usize) {
         let called = format!("signed {number} {address}");
         self.made(called, fares_words(fares), room, &|out| record::write_signed(number, address, fares, out));
     }
 }
 
-/// How many, and the fares themselves if they are few; many are zeros.
-fn fares_words<T: ToString>(fares: &[T]) -> String {
-    let given = if fares.len() > 4 { String::new() } else { words(fares) };
-    format!("{} {given}", fares.len()).trim_end().to_string()
+/// How many, and the fares as far as the last that is not 0.
+fn fares_words<T: ToString + Default + PartialEq>(fares: &[T]) -> String {
+    let given = fares.iter().rposition(|fare| *fare != T::default()).map_or(0, |last| last + 1);
+    format!("{} {}", fares.len(), words(&fares[..given])).trim_end().to_string()
 }
 
 /// A malformed record gives 16 everywhere: once is enough.
@@ -89,13 +133,71 @@ fn read_lines(lines: &mut Lines) {
         let is_record = record::view(payload).is_ok();
         let rooms: &[usize] = if is_record { &[0, 1, 4] } else { &[0] };
         let numbers: &[usize] = if is_record { &[0, 1, 2, 3] } else { &[0] };
+        let payload = given(payload);
         for room in rooms {
-            copy_lines(lines, payload, *room);
+            copy_line(lines, false, &payload, *room);
+            copy_line(lines, true, &payload, *room);
         }
         for number in numbers {
-            element_lines(lines, payload, *number);
+            element_line(lines, false, &payload, *number);
+            element_line(lines, true, &payload, *number);
         }
     }
+}
+
+/// A run that is no record: 16 from each call, whatever the sign and the view's numbers.
+fn malformed_lines(lines: &mut Lines, payload: &Given, number: u8, count: usize) {
+    view_line(lines, payload);
+    for signed in [false, true] {
+        copy_line(lines, signed, payload, 2);
+        element_line(lines, signed, payload, 0);
+        element_line(lines, signed, payload, count);
+        view_element_line(lines, signed, payload, number, count, 0);
+    }
+}
+
+/// A record of `count` elements: copied as a whole, into a run that is one too short, and, if it
+/// is short, into a longer one; its first and last element, and one above, also of its view.
+fn whole_lines(lines: &mut Lines, payload: &Given, number: u8, count: usize) {
+    let is_signed = record::copy_unsigned(&payload.bytes, &mut []) == Err(17);
+    view_line(lines, payload);
+    copy_line(lines, is_signed, payload, count);
+    copy_line(lines, is_signed, payload, count - 1);
+    if count < 10 {
+        copy_line(lines, is_signed, payload, count + 2);
+    }
+    copy_line(lines, !is_signed, payload, 2);
+    for element in [0, count - 1, count, 65_535] {
+        for signed in [false, true] {
+            element_line(lines, signed, payload, element);
+            view_element_line(lines, signed, payload, number, count, element);
+        }
+    }
+}
+
+/// `length` bytes with every top bit among them.
+fn elements(length: usize) -> Vec<u8> {
+    (0..length).map(|k| (37 * k + k / 7 + 100) as u8).collect()
+}
+
+/// The limits of each type, exact and one above: address plus count, the whole length, the count.
+fn edge_lines(lines: &mut Lines) {
+    for (number, size, limit) in TYPES {
+        let one = elements(size);
+        let exact = given(&payload_of(number, limit as u16 - 1, 1, &one));
+        whole_lines(lines, &exact, number, 1);
+        malformed_lines(lines, &given(&payload_of(number, limit as u16, 1, &one)), number, 1);
+        // With address 1 the sum is 0 in 16 bits.
+        malformed_lines(lines, &given(&payload_of(number, 1, 65_535, &one)), number, 65_535);
+        let count = most(size);
+        let all = kept(lines, &payload_of(number, (limit - count) as u16, count as u16, &elements(size * count)));
+        whole_lines(lines, &all, number, count);
+        // 1,025 bytes: one element more.
+        let more = kept(lines, &payload_of(number, 0, count as u16 + 1, &elements(size * (count + 1))));
+        malformed_lines(lines, &more, number, count + 1);
+    }
+    let many = kept(lines, &payload_of(1, 0, 65_535, &elements(1019)));
+    malformed_lines(lines, &many, 1, 65_535);
 }
 
 fn made_records(make: &mut Make) {
@@ -131,44 +233,55 @@ fn refused_records(make: &mut Make) {
     make.unsigned(1, 65_535, &[0], 10);
 }
 
-/// The whole length at most 1,024.
-fn long_records(make: &mut Make) {
-    make.unsigned(1, 0, &[0; 1019], 1024);
-    make.unsigned(1, 0, &[0; 1019], 1023);
-    make.unsigned(1, 0, &[0; 1020], 1100);
-    make.unsigned(2, 0, &[0; 509], 1024);
-    make.unsigned(2, 0, &[0; 510], 1100);
-    make.signed(4, 0, &[0; 254], 1024);
-    make.signed(4, 0, &[0; 255], 1100);
+/// Address plus count at its limit and one above, with one fare and with as many as the
+/// whole length of 1,024 leaves room for; then one fare more.
+fn limits(make: &mut Make) {
+    for (number, size, limit) in TYPES {
+        let count = most(size);
+        let longest = 5 + size * count;
+        let last = (limit - count) as u16;
+        let mut few = |count: usize, address: u16, room: usize| {
+            let fares: Vec<u32> = (0..count as u32).map(|k| if k < 4 { 3 * k + 100 } else { 0 }).collect();
+            let signed: Vec<i32> = fares.iter().map(|fare| -11 * *fare as i32).collect();
+            if number == 3 || number == 4 {
+                make.signed(number, address, &signed, room);
+            } else {
+                make.unsigned(number, address, &fares, room);
+            }
+        };
+        few(1, limit as u16 - 1, 20);
+        few(1, limit as u16, 20);
+        few(count, last, longest);
+        few(count, last, longest - 1);
+        few(count, last, 1100);
+        few(count, last + 1, 1100);
+        few(count + 1, 0, 1100);
+        few(count + 1, 0, 0);
+    }
 }
 
 pub fn records_section() -> Lines {
     let mut lines = section("records");
     read_lines(&mut lines);
+    edge_lines(&mut lines);
     let mut make = Make { lines };
     made_records(&mut make);
     refused_records(&mut make);
-    long_records(&mut make);
+    limits(&mut make);
     make.lines
 }
 
 pub fn views_section() -> Lines {
     let mut lines = section("views");
     for payload in PAYLOADS {
-        let answer = match record::view(payload) {
-            Ok(view) => format!("type {} count {}", view.number, view.count),
-            Err(number) => format!("refused {number}"),
-        };
-        lines.add(&format!("view {}", bytes_word(payload)), &answer);
+        view_line(&mut lines, &given(payload));
     }
     // Views whose fields are not the payload's.
-    let payload = PAYLOADS[3];
-    for (number, count) in [(2, 2), (2, 1), (2, 3), (3, 2), (0, 0)] {
+    let payload = given(PAYLOADS[3]);
+    for (number, count) in [(2, 2), (2, 1), (2, 3), (3, 2), (0, 0), (2, 65_538)] {
         for element in [0, 1, 2] {
-            let view = record::View { payload, number, count };
-            let called = format!("{} {number} {count} {element}", hex(payload));
-            lines.add(&format!("view-element unsigned {called}"), &value_word(view.element_unsigned(element)));
-            lines.add(&format!("view-element signed {called}"), &value_word(view.element_signed(element)));
+            view_element_line(&mut lines, false, &payload, number, count, element);
+            view_element_line(&mut lines, true, &payload, number, count, element);
         }
     }
     lines

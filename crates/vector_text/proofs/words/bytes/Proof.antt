@@ -4,9 +4,9 @@ use mathlib.Core.Path.{ap, sym, subst, _∙_}
 use denote.Ref.{now}
 use lib.ListN.{length, take}
 use borrow.Author.Needs.{needs}
-use Rattle.vector_text.specs.Words.{wordOf, firstOf, decimalOf, unhexed}
+use Rattle.vector_text.specs.Words.{wordOf, firstOf, parsedDecimal, unhexed}
 use Rattle.vector_text.specs.Laid.{runByte, sameByte, laid}
-use Rattle.vector_text.specs.Counted.{Puts}
+use Rattle.vector_text.specs.Counted.{PutAtStart}
 use Rattle.vector_text.proofs.Line.{given-frame, given-run, given-same, given-hex}
 use Rattle.vector_text.proofs.words.bytes.Statement.{statement}
 use Rattle.vector_text.proofs.words.bytes.Tie as tie
@@ -47,7 +47,7 @@ returns c =
     let it = c .before .before .before .before .before .before .word .ensures in
     let letter = ap firstOf (sym it) ∙ sym (c .before .before .before .before .before .first-of .ensures) in
     let u = c .before .before .copy in
-    subst (λ (run : List ℕ). Puts run (now (a .out)) (u .last .1 .0) (u .result)) (sym (given-frame word (now (a .frame)) room (letter ∙ c .before .before .before .before .match .keys1))) (u .ensures)
+    subst (λ (run : List ℕ). PutAtStart run (now (a .out)) (u .last .1 .0) (u .result)) (sym (given-frame word (now (a .frame)) room (letter ∙ c .before .before .before .before .match .keys1))) (u .ensures)
 
 same-length-2 : tie.Need-same-length-2
 same-length-2 c = search needs
@@ -60,8 +60,8 @@ returns-2 c =
     let it = c .before .before .before .before .before .before .before .word .ensures in
     let letter = ap firstOf (sym it) ∙ sym (c .before .before .before .before .before .before .first-of .ensures) in
     let u = c .before .before .lay in
-    let count = c .before .before .before .before .decimal .ensures ∙ ap decimalOf it in
-    subst (λ (run : List ℕ). Puts run (now (a .out)) (u .last .1 .1 .0) (u .result)) (ap (λ (n : ℕ). laid runByte (min n room)) count ∙ sym (given-run word (now (a .frame)) room (letter ∙ c .before .before .before .before .before .match .keys2))) (u .ensures)
+    let count = c .before .before .before .before .decimal .ensures ∙ ap parsedDecimal it in
+    subst (λ (run : List ℕ). PutAtStart run (now (a .out)) (u .last .1 .1 .0) (u .result)) (ap (λ (n : ℕ). laid runByte (min n room)) count ∙ sym (given-run word (now (a .frame)) room (letter ∙ c .before .before .before .before .before .match .keys2))) (u .ensures)
 
 same-length-3 : tie.Need-same-length-3
 same-length-3 c = search needs
@@ -74,8 +74,8 @@ returns-3 c =
     let it = c .before .before .before .before .before .before .before .word .ensures in
     let letter = ap firstOf (sym it) ∙ sym (c .before .before .before .before .before .before .first-of .ensures) in
     let u = c .before .before .lay2 in
-    let count = c .before .before .before .before .decimal2 .ensures ∙ ap decimalOf it in
-    subst (λ (run : List ℕ). Puts run (now (a .out)) (u .last .1 .1 .0) (u .result)) (ap (λ (n : ℕ). laid sameByte (min n room)) count ∙ sym (given-same word (now (a .frame)) room (letter ∙ c .before .before .before .before .before .match .keys3))) (u .ensures)
+    let count = c .before .before .before .before .decimal2 .ensures ∙ ap parsedDecimal it in
+    subst (λ (run : List ℕ). PutAtStart run (now (a .out)) (u .last .1 .1 .0) (u .result)) (ap (λ (n : ℕ). laid sameByte (min n room)) count ∙ sym (given-same word (now (a .frame)) room (letter ∙ c .before .before .before .before .before .match .keys3))) (u .ensures)
 
 same-length-4 : tie.Need-same-length-4
 same-length-4 c = search needs
@@ -90,7 +90,7 @@ returns-4 c =
     let letter = ap firstOf (sym it) ∙ sym (c .before .before .before .before .before .first-of .ensures) in
     let u = c .before .before .unhex in
     let other = c .before .before .before .before .match .rest in
-    subst (λ (run : List ℕ). Puts run (now (a .out)) (u .last .1 .0) (u .result)) (ap (λ (w : List ℕ). take room (unhexed w)) it ∙ sym (given-hex word (now (a .frame)) room (λ e. other .0 .0 .1 (sym letter ∙ e)) (λ e. other .0 .1 (sym letter ∙ e)) (λ e. other .1 (sym letter ∙ e)))) (u .ensures)
+    subst (λ (run : List ℕ). PutAtStart run (now (a .out)) (u .last .1 .0) (u .result)) (ap (λ (w : List ℕ). take room (unhexed w)) it ∙ sym (given-hex word (now (a .frame)) room (λ e. other .0 .0 .1 (sym letter ∙ e)) (λ e. other .0 .1 (sym letter ∙ e)) (λ e. other .1 (sym letter ∙ e)))) (u .ensures)
 
 pub bytes-spec : {M : Type 1} → statement M
 bytes-spec =

@@ -4,14 +4,14 @@ use native.Mathlib.Omega.{arith}
 use denote.Ref.{now}
 use lib.ListN.{length, drop}
 use borrow.Author.Needs.{needs}
-use Rattle.vector_text.specs.Words.{decimalFrom, decimalOf}
+use Rattle.vector_text.specs.Words.{decimalFrom, parsedDecimal}
 use Rattle.vector_text.proofs.Line.{decimal-next, decimal-end}
 use Rattle.vector_text.proofs.words.decimal.Statement.{statement}
 use Rattle.vector_text.proofs.words.decimal.Tie as tie
 
 -- value, carried on over the bytes from i on, is the number of the whole word
 abbrev Inv-loop : tie.InvT-loop
-Inv-loop word value₀ i₀ value i = decimalFrom value (drop i word) ≡ decimalOf word
+Inv-loop word value₀ i₀ value i = decimalFrom value (drop i word) ≡ parsedDecimal word
 
 abbrev μ-loop : tie.MeasureT-loop
 μ-loop word value₀ i₀ value i = length word - i
@@ -36,13 +36,13 @@ loop-again c =
     let t = c .before .before in
     let l = t .before .loop in
     let w = now (t .before .before .before .args .word) in
-    decimal-next w (l .value) (c .with-digit .result) (l .i) (decimalOf w) (t .loop-test .taken) (c .with-digit .ensures) (l .inv)
+    decimal-next w (l .value) (c .with-digit .result) (l .i) (parsedDecimal w) (t .loop-test .taken) (c .with-digit .ensures) (l .inv)
 
 returns : tie.Need-returns Inv-loop μ-loop
 returns c =
     let l = c .before .loop in
     let w = now (c .before .before .before .args .word) in
-    decimal-end w (l .value) (l .i) (decimalOf w) (omega arith) (l .inv)
+    decimal-end w (l .value) (l .i) (parsedDecimal w) (omega arith) (l .inv)
 
 pub decimal-spec : {M : Type 1} → statement M
 decimal-spec =

@@ -38,7 +38,7 @@ use denote.Triple.Table.{entered, cited}
 use denote.Triple.Walked.{says, Stays, stay-none-slice, walkOf, goes-none-slice, Walks, ends-at, walked, walk-meets}
 use denote.Exit.{yes}
 use denote.Triple.Clauses.{ensured, lasts}
-use Rattle.record.specs.Form.{head, headOf}
+use Rattle.record.specs.Form.{header, headerOf}
 use Rattle.record.specs.declared.RecordView.{RecordView}
 use Rattle.record.proofs.RecordView as T
 use Rattle.record.proofs.RecordView.Laws as T′
@@ -101,7 +101,7 @@ module _ {M : Type 1} (𝓤 : URA M) (H : Heap 𝓤) (A : Atoms 𝓤) (W : Given
       move ! (0 ∷ 2 ∷ []) $ fjoin ! $ move ! (2 ∷ 0 ∷ []) $ use2 W (raw (View 𝓤 H A mem run .pre to)) (qed W ((‵ (flft κ q) ⊛ ‵ ftrue) ∷ ‵ (owns (ShrSlice (named 0) κ u8 ∷ []) (s, tt) at) ∷ []) ∵ join ! $ frame ! $ done !) $ frame ! $ done !
 
   abbrev Viewed : RecordView → Type 0
-  Viewed r = (r .payload ≡ s) × (head (r .kind) (r .count) ≡ headOf (now s))
+  Viewed r = (r .payload ≡ s) × (header (r .kind) (r .count) ≡ headerOf (now s))
 
   said : (r : RecordView) → ent 𝓤 (ensured 𝓤 H A view.ended (view.clauses 𝓤 H A mem run) (κ, tt) (s, tt) tt r) (fact 𝓤 (Viewed r))
   said r = exE 𝓤 _ (λ ws. snd∗ 𝓤 (sem 𝓤 H A (lasts view.ended (κ, tt) (s, tt) ws)) (fact 𝓤 (Viewed r)))
