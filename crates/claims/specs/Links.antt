@@ -1,9 +1,15 @@
 -- The four links, as one type.
+use Prim.Native.Nat.{ℕ}
+use mathlib.Core.List.{List}
 use Rattle.framing.specs.Link.{Link}
 use Rattle.pcs.specs.Contract as Pcs
 use Rattle.mdu.specs.Contract as Mdu
 use Rattle.dle.specs.Contract as Dle
 use Rattle.expansion.specs.Contract as Expansion
+use Rattle.pcs.specs.Claims as PcsClaims
+use Rattle.mdu.specs.Claims as MduClaims
+use Rattle.dle.specs.Claims as DleClaims
+use Rattle.expansion.specs.Claims as ExpansionClaims
 
 pub data Which : Type 0 where
   pcs : Which
@@ -17,3 +23,17 @@ linkOf pcs = Pcs.link
 linkOf mdu = Mdu.link
 linkOf dle = Dle.link
 linkOf expansion = Expansion.link
+
+-- the numbers that a stream gives on each
+abbrev pub numbersOf : Which → List ℕ
+numbersOf pcs = PcsClaims.streamNumbers
+numbersOf mdu = MduClaims.streamNumbers
+numbersOf dle = DleClaims.streamNumbers
+numbersOf expansion = ExpansionClaims.streamNumbers
+
+-- what a call leaves in the store on each
+abbrev pub StoresGathered : Which → Type 0
+StoresGathered pcs = PcsClaims.StoresGathered
+StoresGathered mdu = MduClaims.StoresGathered
+StoresGathered dle = DleClaims.StoresGathered
+StoresGathered expansion = ExpansionClaims.StoresGathered

@@ -1,1 +1,1 @@
-// Demands 2 and 3 and the proved examples, one statement each: in specs/, with their proofs in proofs/. There is no code here.
+// The demands over all links and the proved examples, one statement each: in specs/, with their proofs in proofs/. There is no code here.

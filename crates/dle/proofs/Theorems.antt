@@ -1,24 +1,21 @@
--- What is claimed of the DLE link.
-use Rattle.framing.specs.Claims.{ReadsBack, CallsReadBack, Canonical, CutAnywhere, Accounted, CallsTold}
-use Rattle.framing.proofs.Lawful as of-lawful
-use Rattle.framing.proofs.Wire as Wire
+-- What is claimed of the DLE link besides the claims on every link, which follow from `lawful` (framing/proofs/Lawful.antt, Wire.antt, Whole.antt).
+use Rattle.framing.proofs.Refusals as any
+use Rattle.framing.proofs.Places as Places
+use mathlib.Core.List.{[]}
 use Rattle.dle.specs.Contract.{link}
+use Rattle.dle.specs.Claims.{streamNumbers, GivesExactly, ReceiveGives, StoresGathered}
 use Rattle.dle.proofs.Lawful.{lawful}
+use Rattle.dle.proofs.Numbers.{given}
+use Rattle.dle.proofs.Places.{storing}
 
-pub reads-back : ReadsBack link
-reads-back = of-lawful.reads-back link lawful
+-- a stream gives exactly these numbers
+pub gives-exactly : GivesExactly
+gives-exactly = any.gives-exactly link lawful streamNumbers given
 
-pub calls-read-back : CallsReadBack link
-calls-read-back = Wire.calls-read-back link lawful
+-- and a call of `receive` 12, 1 and these
+pub receive-gives : ReceiveGives
+receive-gives = any.receive-gives link lawful streamNumbers given
 
-pub canonical : Canonical link
-canonical = of-lawful.canonical link lawful
-
-pub cut-anywhere : CutAnywhere link
-cut-anywhere = of-lawful.cut-anywhere link lawful
-
-pub accounted : Accounted link
-accounted = of-lawful.accounted link lawful
-
-pub calls-told : CallsTold link
-calls-told = Wire.calls-told link lawful
+-- what a call leaves in the store, place by place
+pub stores-gathered : StoresGathered
+stores-gathered = Places.stores-gathered link (λ g b. g) (λ m. []) storing

@@ -1,4 +1,4 @@
--- Both codes in one form, three numbers, over which the loops are written once.
+-- Both codes in one form, three numbers, over which the loops are written once. This serves the contracts of private functions only.
 use Prim.Native.Nat.{ℕ, zero, suc, _+_, _-_}
 use mathlib.Core.Bool.{Bool, cond, _&&_}
 use mathlib.Core.List.{List, [], _∷_}

@@ -1,33 +1,30 @@
--- What is claimed of the expansion link: the claims on every link, the bound on its frames, its check value, and what a wrong check value leaves.
-use Rattle.framing.specs.Claims.{ReadsBack, CallsReadBack, Canonical, CutAnywhere, Accounted, CallsTold}
-use Rattle.framing.proofs.Lawful as any
-use Rattle.framing.proofs.Wire as Wire
+-- What is claimed of the expansion link besides the claims on every link, which follow from `lawful` (framing/proofs/Lawful.antt, Wire.antt, Whole.antt); the bound on
+-- its frames, its check value, and what a wrong check value leaves.
+use Rattle.framing.proofs.Refusals as any
+use Rattle.framing.proofs.Places as Places
+use mathlib.Core.List.{[]}
 use Rattle.escape.proofs.Expansion.{expansion-bound}
 use Rattle.checksum.specs.Claims.{Crc32Detects}
 use Rattle.checksum.proofs.CheckValue.{crc32-detects}
 use Rattle.expansion.specs.Contract.{link}
-use Rattle.expansion.specs.Claims.{FrameBound, RefusedHeader, RefusedAsSent}
-use Rattle.expansion.proofs.Judge.{content, content-fits}
+use Rattle.expansion.specs.Claims.{streamNumbers, GivesExactly, ReceiveGives, StoresGathered, FrameBound, RefusedHeader, RefusedAsSent}
 use Rattle.expansion.proofs.Lawful.{lawful}
+use Rattle.expansion.proofs.Numbers.{given}
+use Rattle.expansion.proofs.Places.{storing}
+use Rattle.expansion.proofs.Judge.{content, content-fits}
 use Rattle.expansion.proofs.Refused as wrong
 
-pub reads-back : ReadsBack link
-reads-back = any.reads-back link lawful
+-- a stream gives exactly these numbers
+pub gives-exactly : GivesExactly
+gives-exactly = any.gives-exactly link lawful streamNumbers given
 
-pub calls-read-back : CallsReadBack link
-calls-read-back = Wire.calls-read-back link lawful
+-- and a call of `receive` 12, 1 and these
+pub receive-gives : ReceiveGives
+receive-gives = any.receive-gives link lawful streamNumbers given
 
-pub canonical : Canonical link
-canonical = any.canonical link lawful
-
-pub cut-anywhere : CutAnywhere link
-cut-anywhere = any.cut-anywhere link lawful
-
-pub accounted : Accounted link
-accounted = any.accounted link lawful
-
-pub calls-told : CallsTold link
-calls-told = Wire.calls-told link lawful
+-- what a call leaves in the store, place by place
+pub stores-gathered : StoresGathered
+stores-gathered = Places.stores-gathered link (λ g b. g) (λ m. []) storing
 
 pub frame-bound : FrameBound
 frame-bound m h = expansion-bound (content m) (content-fits m h)

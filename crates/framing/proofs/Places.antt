@@ -13,7 +13,7 @@ use borrow.Author.Tests.{le-leb, leb-true, leb-false}
 use Rattle.runs.specs.Runs.{over}
 use Rattle.framing.specs.Receiver.{Fed, stop, feed}
 use Rattle.framing.specs.Segment.{Segment, Event, eventOf}
-use Rattle.framing.specs.Link.{Link, Lent, stepOn, callOn}
+use Rattle.framing.specs.Link.{Link, Lent, stepOn}
 use Rattle.framing.specs.Places.{Places, gatheredBy, unpackedBy, StoresGathered}
 use Rattle.framing.proofs.Feed.{used-some}
 

@@ -13,11 +13,11 @@ use borrow.Author.Tests.{eqb-true, ltb-true, lt-leb, le-leb}
 use Rattle.runs.specs.Runs.{Bytes}
 use Rattle.runs.proofs.Bytes.{bytes-one, bytes-more, bytes-append}
 use Rattle.runs.proofs.Cases.{and-both}
-use Rattle.framing.specs.Answer.{Outcome, done, storedAt}
+use Rattle.framing.specs.Answer.{Outcome, storedAt}
 use Rattle.framing.specs.Answer as Answer
 use Rattle.framing.specs.Receiver.{Fed, emit, stop, feed, events}
 use Rattle.framing.specs.Segment.{Segment, noise, refusedFrame, acceptedFrame, Event, message, refusal, eventOf, heard}
-use Rattle.framing.specs.Link.{Link, Lent, Told, nothing, accepted, refused, stepOn, callOn, told, receives}
+use Rattle.framing.specs.Link.{Link, Lent, refused, stepOn, callOn, told}
 use Rattle.framing.specs.Claims.{AllOf, segments}
 use Rattle.framing.specs.Whole.{settle, exactly, readOn}
 use Rattle.framing.specs.Refusals.{isIn, StreamGives, GivesExactly, CallGives, ReceiveGives, ReadGives, ReadsGive, WritesGive}
@@ -68,6 +68,13 @@ either P false h k = k
 all-at : {A : Type 0} (P : A → Type 0) (before after : List A) (x : A) → AllOf P (before ++ (x ∷ after)) → P x
 all-at P [] after x a = a .0
 all-at P (y ∷ before) after x a = all-at P before after x (a .1)
+
+-- a number of a list, or 0, as a list of tests gives it
+pub record Listed (numbers : List ℕ) (n : ℕ) : Type 0 where
+  pub listed : (n ≡ 0 → ⊥) → isIn n numbers ≡ true
+
+pub none-listed : (numbers : List ℕ) → Listed numbers 0
+none-listed numbers = record { listed = λ n. absurd (n refl) }
 
 -- of the segment that a byte closes, and of what is heard: a refusal's number is in a list
 abbrev pub Closes : {M : Type 0} → List ℕ → Option (Segment M) → Type 0
@@ -245,6 +252,11 @@ module _ (L : Link) where
         let z : k ≡ n = cc in
         in-more n (1 ∷ numbers) 6 (subst (λ (x : ℕ). isIn x (1 ∷ numbers) ≡ true) z h)
 
+    pub read-listed : (run lent : List ℕ) (n : ℕ) → readOn L run lent .0 ≡ Answer.refused n → isIn n (6 ∷ 1 ∷ numbers) ≡ true
+    read-listed run lent n e =
+        let f = callOn L (L .fresh, lent) run in
+        settled-in (exactly (length run) (f .used) (L .noise (f .after .0))) (f .event) n (hears-known (L .fresh, lent) run fresh-known) e
+
     read-first : (n : ℕ) (run lent : List ℕ) → callOn L (L .fresh, lent) run .event ≡ some (refusal n) → readOn L run lent .0 ≡ Answer.refused n
     read-first n run lent e = rw e
 
@@ -252,9 +264,7 @@ module _ (L : Link) where
     pub reads-give : (list : List ℕ) → AllOf (λ n. isIn n list ≡ true) (6 ∷ 1 ∷ numbers) → AllOf (λ n. isIn n (6 ∷ 1 ∷ numbers) ≡ true) list → ReadsGive L list
     reads-give list there here n = (
       λ h. all-in (ReadGives L) (6 ∷ 1 ∷ numbers) n gives (all-in (λ n. isIn n (6 ∷ 1 ∷ numbers) ≡ true) list n here h),
-      λ g. let f = callOn L (L .fresh, g .store) (g .run) in
-          all-in (λ n. isIn n list ≡ true) (6 ∷ 1 ∷ numbers) n there
-          (settled-in (exactly (length (g .run)) (f .used) (L .noise (f .after .0))) (f .event) n (hears-known (L .fresh, g .store) (g .run) fresh-known) (g .answers)),
+      λ g. all-in (λ n. isIn n list ≡ true) (6 ∷ 1 ∷ numbers) n there (read-listed (g .run) (g .store) n (g .answers)),
     )
       where
         streams : (ms : List ℕ) → AllOf First ms → AllOf (ReadGives L) ms

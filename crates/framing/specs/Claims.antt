@@ -1,4 +1,4 @@
--- What is claimed of every link. Each link's proofs/Theorems.antt proves these for its own.
+-- What is claimed of every link. The crate `claims` has these for all four.
 use Prim.Native.Nat.{ℕ, _%_, _^_, _≤_}
 use mathlib.Core.Path.{_≡_}
 use mathlib.Core.Logic.{_↔_}
@@ -50,7 +50,8 @@ module _ (L : Link) where
   abbrev pub ReadsBack : Type 0
   ReadsBack =
       (m : L .Message) (memory rest : List ℕ) (s : L .State) (store : List ℕ)
-      → L .Typed m → L .ok m ≡ true → length (L .frame m) ≤ length memory → Bytes rest → L .known s ≡ true → L .phaseOf s store ≡ L .hunting → L .size ≤ length store → ReadBack m memory rest s store
+      → L .Typed m → L .ok m ≡ true → length (L .frame m) ≤ length memory → Bytes rest
+      → L .known s ≡ true → L .phaseOf s store ≡ L .hunting → L .size ≤ length store → ReadBack m memory rest s store
 
   -- calls read back: of the bytes that any calls of the writer leave, refused ones and none at all included, cut anywhere, a fresh receiver, its
   -- store handed back untouched, hands out exactly the kept messages, in order; nothing is noise, and it hunts with nothing open

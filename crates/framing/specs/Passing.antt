@@ -1,4 +1,4 @@
--- Bytes of a piece that a call of a receiver passes without an event, for the private functions of the links.
+-- Bytes of a piece that a call of a receiver passes without an event. This serves the contracts of private functions of the links only.
 use Prim.Native.Nat.{ℕ, _+_, _-_, _%_, _^_, _≤_, _<_}
 use mathlib.Core.Path.{_≡_}
 use mathlib.Core.List.{List}

@@ -1,4 +1,4 @@
--- What the number of a message packs on each link. Its fields are bytes, since they stand in its frame, hidden or not.
+-- What the number of a message packs on each link.
 use Prim.Native.Nat.{ℕ, zero, suc, _<_}
 use mathlib.Core.Path.{_≡_, refl}
 use mathlib.Core.Bool.{true, cond}
@@ -33,41 +33,26 @@ use Rattle.host.specs.Read.{refusalOf, pcsCode, mduCode, dleCode, expans
 use Rattle.host.proofs.Packed.{packed-refusal}
 use Rattle.host.proofs.Parts.{Packs}
 
--- what each f shows is bytes only where f is given bytes
-shown : (f : ℕ → List ℕ) → ((b : ℕ) → Bytes (f b) → b < 256) → (bytes : List ℕ) → Bytes (each f bytes) → Bytes bytes
-unfolding each
-shown f h [] y i = lit< tt
-shown f h (b ∷ bytes) y zero = h b (bytes-left (f b) (each f bytes) y)
-shown f h (b ∷ bytes) y (suc i) = shown f h bytes (bytes-right (f b) (each f bytes) y) i
-
-doubled-bytes : (bytes : List ℕ) → Bytes (hide Doubled.dle bytes) → Bytes bytes
-doubled-bytes = shown Doubled.hideByte (λ b. by-eqb (λ run. Bytes run → b < 256) b 0x10 (λ e _. omega arith) (λ _ y. y 0))
-
-escaped-bytes : (bytes : List ℕ) → Bytes (hide Escaped.expansion bytes) → Bytes bytes
-escaped-bytes =
-    shown Escaped.hideByte
-    (λ b. by-byte (λ run. Bytes run → b < 256) b (λ e _. omega arith) (λ e _. omega arith) (λ e _. omega arith) (λ _ _ _ y. y 0))
-
 -- ---- PCS
 
 abbrev pcsFields : PcsNumbers.Message → List ℕ
 pcsFields v = v .receiver ∷ v .sender ∷ v .number ∷ v .«sender_port» ∷ v .«receiver_port» ∷ []
 
-pcs-bytes : (m : PcsFrame.Message) → Bytes (PcsFrame.frame m) → Bytes (pcsFields (Pcs.numbersOf m))
-pcs-bytes m y zero = y 1
-pcs-bytes m y (suc zero) = y 2
-pcs-bytes m y (suc (suc zero)) = y 4
-pcs-bytes m y (suc (suc (suc i))) = bytes-two (m .sender-port) (m .receiver-port) (y 7) (y 8) i
+pcs-bytes : (m : PcsFrame.Message) → PcsFrame.Typed m → Bytes (pcsFields (Pcs.numbersOf m))
+pcs-bytes m t zero = t .receiver
+pcs-bytes m t (suc zero) = t .sender
+pcs-bytes m t (suc (suc zero)) = t .number
+pcs-bytes m t (suc (suc (suc i))) = bytes-two (m .sender-port) (m .receiver-port) (t .sender-port) (t .receiver-port) i
 
-pub pcs-packs : (m : PcsFrame.Message) → PcsFrame.ok m ≡ true → Bytes (PcsFrame.frame m)
+pub pcs-packs : (m : PcsFrame.Message) → PcsFrame.ok m ≡ true → PcsFrame.Typed m
     → Packs pcsCode (λ v. v .length) (λ v. v .kind) pcsFields (Pcs.numbersOf m)
-pcs-packs m h y =
+pcs-packs m h t =
     let s = sendable m h in
     record {
       number = refl;
       size-fits = omega (arith, s .most);
       kind-fits = omega (arith, kind-most (m .kind) (length (m .payload)) (s .kind));
-      fields-fit = pcs-bytes m y;
+      fields-fit = pcs-bytes m t;
     }
 
 pub pcs-zero : (v : PcsNumbers.Message) → refusalOf (pcsCode v) ≡ 0
@@ -75,11 +60,11 @@ pcs-zero v = packed-refusal (v .length) (v .kind) _
 
 -- ---- MDU
 
-pub mdu-packs : (m : MduFrame.Message) → MduFrame.ok m ≡ true → Bytes (MduFrame.frame m)
+pub mdu-packs : (m : MduFrame.Message) → MduFrame.ok m ≡ true → MduFrame.Typed m
     → Packs mduCode (λ v. v .length) (λ v. 0) (λ v. v .address ∷ []) (Mdu.numbersOf m)
-mdu-packs m h y =
+mdu-packs m h t =
     let k = length-most (length (m .body)) (and-both (leb 1 (m .address)) (MduFrame.lengthOk (length (m .body))) h .1) in
-    record { number = refl; size-fits = omega arith; kind-fits = lit< tt; fields-fit = bytes-one (m .address) (y 4) }
+    record { number = refl; size-fits = omega arith; kind-fits = lit< tt; fields-fit = bytes-one (m .address) (t .0) }
 
 pub mdu-zero : (v : MduNumbers.Message) → refusalOf (mduCode v) ≡ 0
 mdu-zero v = packed-refusal (v .length) 0 _
@@ -93,29 +78,23 @@ dleFields v = v .sequence ∷ v .node ∷ v .error ∷ []
 abbrev dleKind : DleNumbers.Message → ℕ
 dleKind v = cond (eqb (v .length) 0) 1 0
 
-dle-body : (m : DleFrame.Message) → Bytes (DleFrame.frame m) → Bytes (DleFrame.body m)
-dle-body m y =
-    doubled-bytes (DleFrame.body m) (bytes-left (hide Doubled.dle (DleFrame.body m)) (0x10 ∷ 0x03 ∷ []) (λ i. y (suc (suc i))))
-
-pub dle-packs : (m : DleFrame.Message) → DleFrame.ok m ≡ true → Bytes (DleFrame.frame m)
+pub dle-packs : (m : DleFrame.Message) → DleFrame.ok m ≡ true → DleFrame.Typed m
     → Packs dleCode (λ v. v .length) dleKind dleFields (Dle.numbersOf m)
-dle-packs (DleFrame.content s n d) h y =
-    let p = dle-body (DleFrame.content s n d) y in
+dle-packs (DleFrame.content s n d) h t =
     let l = ok-length (length d) h in
     let z = ne-eqb (length d) 0 (λ e. omega (arith, l .0)) in
     record {
       number = rw z;
       size-fits = omega (arith, l .1);
       kind-fits = rw z (lit< tt);
-      fields-fit = bytes-append (s ∷ n ∷ []) (0 ∷ []) (bytes-two s n (p 0) (p 1)) (bytes-one 0 (lit< tt));
+      fields-fit = bytes-append (s ∷ n ∷ []) (0 ∷ []) (bytes-two s n (t .0) (t .1)) (bytes-one 0 (lit< tt));
     }
-dle-packs (DleFrame.error s n e) h y =
-    let p = dle-body (DleFrame.error s n e) y in
+dle-packs (DleFrame.error s n e) h t =
     record {
       number = refl;
       size-fits = lit< tt;
       kind-fits = lit< tt;
-      fields-fit = bytes-append (s ∷ n ∷ []) (e ∷ []) (bytes-two s n (p 0) (p 1)) (bytes-one e (p 3));
+      fields-fit = bytes-append (s ∷ n ∷ []) (e ∷ []) (bytes-two s n (t .0) (t .1)) (bytes-one e (t .2));
     }
 
 pub dle-zero : (v : DleNumbers.Message) → refusalOf (dleCode v) ≡ 0
@@ -127,22 +106,21 @@ dle-zero v =
 abbrev expansionFields : ExpansionNumbers.Message → List ℕ
 expansionFields v = v .id ∷ v .kind ∷ v .repeat ∷ v .address ∷ []
 
-expansion-body : (m : ExpansionFrame.Message) → Bytes (ExpansionFrame.frame m) → Bytes (ExpansionFrame.body m)
-expansion-body m y =
-    let content = ExpansionFrame.body m ++ ExpansionFrame.trailer (ExpansionFrame.body m) in
-    bytes-left (ExpansionFrame.body m) (ExpansionFrame.trailer (ExpansionFrame.body m))
-    (escaped-bytes content (bytes-left (hide Escaped.expansion content) (0xFE ∷ []) (λ i. y (suc i))))
+expansion-bytes : (m : ExpansionFrame.Message) → ExpansionFrame.Typed m → Bytes (expansionFields (Expansion.numbersOf m))
+expansion-bytes m t zero = t .id
+expansion-bytes m t (suc zero) = t .kind
+expansion-bytes m t (suc (suc i)) = bytes-two (m .repeat) (m .address) (t .repeat) (t .address) i
 
-pub expansion-packs : (m : ExpansionFrame.Message) → ExpansionFrame.ok m ≡ true → Bytes (ExpansionFrame.frame m)
+pub expansion-packs : (m : ExpansionFrame.Message) → ExpansionFrame.ok m ≡ true → ExpansionFrame.Typed m
     → Packs expansionCode (λ v. v .length) (λ v. 0) expansionFields (Expansion.numbersOf m)
-expansion-packs m h y =
+expansion-packs m h t =
     let a = and-both (ExpansionFrame.kindOk (m .kind) (length (m .payload))) _ h in
     let b = leb-true (length (m .payload)) 1024 (and-both (leb (m .repeat) 3) (leb (length (m .payload)) 1024) (a .1) .1) in
     record {
       number = refl;
       size-fits = omega arith;
       kind-fits = lit< tt;
-      fields-fit = bytes-take 4 (ExpansionFrame.body m) (expansion-body m y);
+      fields-fit = expansion-bytes m t;
     }
 
 pub expansion-zero : (v : ExpansionNumbers.Message) → refusalOf (expansionCode v) ≡ 0

@@ -19,14 +19,14 @@ pub record Packs {N : Type 0} (code size kind : N → ℕ) (fields : N → List 
   pub kind-fits : kind v < 2 ^ 2
   pub fields-fit : Bytes (fields v)
 
--- so does that of each message that may be sent and whose frame is of bytes
+-- so does that of each message that may be sent and whose numbers fit their types
 module _ (L : Link) (only : OnlyFrames L) {code size kind : L .Numbers → ℕ} {fields : L .Numbers → List ℕ}
-    (packs : (m : L .Message) → L .ok m ≡ true → Bytes (L .frame m) → Packs code size kind fields (L .numbersOf m)) where
+    (packs : (m : L .Message) → L .ok m ≡ true → L .Typed m → Packs code size kind fields (L .numbersOf m)) where
   part-told : (accessor : ℕ → ℕ) (part : L .Numbers → ℕ)
       → ((v : L .Numbers) → Packs code size kind fields v → accessor (packed (size v) (kind v) (fields v)) ≡ part v) → PartTold L code accessor part
   part-told accessor part tells run store v y h =
       let p = only run store v y h in
-      let k = subst (Packs code size kind fields) (sym (p .1 .told)) (packs (p .0) (p .1 .sendable) (subst Bytes (p .1 .framed) y)) in
+      let k = subst (Packs code size kind fields) (sym (p .1 .told)) (packs (p .0) (p .1 .sendable) (p .1 .typed)) in
       ap (λ (o : Outcome (L .Numbers)). accessor (encode code o)) h ∙ ap accessor (k .number) ∙ tells v k
 
   pub length-told : PartTold L code lengthOf size

@@ -1,15 +1,29 @@
--- What is claimed of the calls, over any link. proofs/Theorems.antt proves it for each.
+-- What is claimed of the calls, over any link, and the refusals of each read. proofs/Theorems.antt proves it for each link.
 use Prim.Native.Nat.{ℕ, _≤_}
 use mathlib.Core.Path.{_≡_}
 use mathlib.Core.Logic.{_↔_}
 use mathlib.Core.Bool.{true}
-use mathlib.Core.List.{List}
+use mathlib.Core.List.{List, [], _∷_}
 use lib.ListN.{length}
 use Rattle.runs.specs.Runs.{Bytes}
 use Rattle.framing.specs.Answer.{done, refused}
 use Rattle.framing.specs.Link.{Link}
 use Rattle.framing.specs.Whole.{readOn}
 use Rattle.host.specs.Read.{reads, refusalOf}
+
+-- the refusals of each read, and no others: a short store, what its receiver gives of a stream, and 6 for bytes that are not one whole frame. So 4 and
+-- 5 are not given on MDU, 7 on DLE and expansion only, 8 and 9 not on DLE, 10 not on expansion, 11 and 13 on PCS only, and 2, 3 and 12 by no read
+abbrev pub pcsRefusals : List ℕ
+pcsRefusals = 1 ∷ 4 ∷ 5 ∷ 6 ∷ 8 ∷ 9 ∷ 10 ∷ 11 ∷ 13 ∷ []
+
+abbrev pub mduRefusals : List ℕ
+mduRefusals = 1 ∷ 6 ∷ 8 ∷ 9 ∷ 10 ∷ []
+
+abbrev pub dleRefusals : List ℕ
+dleRefusals = 1 ∷ 4 ∷ 5 ∷ 6 ∷ 7 ∷ 10 ∷ []
+
+abbrev pub expansionRefusals : List ℕ
+expansionRefusals = 1 ∷ 4 ∷ 5 ∷ 6 ∷ 7 ∷ 8 ∷ 9 ∷ []
 
 module _ (L : Link) where
   -- no frame takes more than 2,066 wire bytes, so a writer's answer fits 32 bits

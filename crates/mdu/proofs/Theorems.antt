@@ -1,29 +1,27 @@
--- What is claimed of every link, for MDU; and what its check value detects.
-use Rattle.framing.specs.Claims.{ReadsBack, CallsReadBack, Canonical, CutAnywhere, Accounted, CallsTold}
-use Rattle.framing.proofs.Lawful as Any
-use Rattle.framing.proofs.Wire as Wire
+-- What is claimed of the MDU link besides the claims on every link, which follow from `lawful` (framing/proofs/Lawful.antt, Wire.antt, Whole.antt); and what its check value detects.
+use Rattle.framing.proofs.Refusals as any
+use Rattle.framing.proofs.Places as Places
+use mathlib.Core.List.{[], _∷_, _++_}
 use Rattle.checksum.specs.Claims.{Crc16Detects}
 use Rattle.checksum.proofs.CheckValue.{crc16-detects}
 use Rattle.mdu.specs.Contract.{link}
+use Rattle.mdu.specs.Claims.{streamNumbers, GivesExactly, ReceiveGives, StoresGathered}
 use Rattle.mdu.proofs.Lawful.{lawful}
+use Rattle.mdu.proofs.Numbers.{given}
+use Rattle.mdu.proofs.Places.{storing}
 
-pub reads-back : ReadsBack link
-reads-back = Any.reads-back link lawful
+-- a stream gives exactly these numbers
+pub gives-exactly : GivesExactly
+gives-exactly = any.gives-exactly link lawful streamNumbers given
 
-pub calls-read-back : CallsReadBack link
-calls-read-back = Wire.calls-read-back link lawful
+-- and a call of `receive` 12, 1 and these
+pub receive-gives : ReceiveGives
+receive-gives = any.receive-gives link lawful streamNumbers given
 
-pub canonical : Canonical link
-canonical = Any.canonical link lawful
+-- what a call leaves in the store, place by place
+pub stores-gathered : StoresGathered
+stores-gathered = Places.stores-gathered link (λ g b. g ++ (b ∷ [])) (λ m. []) storing
 
-pub cut-anywhere : CutAnywhere link
-cut-anywhere = Any.cut-anywhere link lawful
-
-pub accounted : Accounted link
-accounted = Any.accounted link lawful
-
-pub calls-told : CallsTold link
-calls-told = Wire.calls-told link lawful
-
+-- two bodies of equal length that differ only within two neighbouring bytes have different check values
 pub check-value : Crc16Detects
 check-value = crc16-detects

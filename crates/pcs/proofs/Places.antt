@@ -1,7 +1,6 @@
 -- What a call leaves in the store.
 use Prim.Native.Nat.{ℕ, _≤_}
 use mathlib.Core.Path.{_≡_, refl, ap}
-use mathlib.Core.Bool.{true}
 use mathlib.Core.List.{List, [], _∷_, _++_}
 use mathlib.Core.Option.{Option, some}
 use native.Mathlib.Omega.{arith}
@@ -9,7 +8,7 @@ use lib.ListN.{length, take, length-append, length-take}
 use Rattle.runs.specs.Runs.{over}
 use Rattle.runs.proofs.Cases.{by-eqb, by-ltb}
 use Rattle.framing.specs.Segment.{Segment}
-use Rattle.framing.specs.State.{knownState, stateAfter}
+use Rattle.framing.specs.State.{stateAfter}
 use Rattle.framing.specs.declared.State.{State}
 use Rattle.framing.proofs.Byte.{by-end}
 use Rattle.framing.proofs.States.{known-count}

@@ -10,7 +10,7 @@ use Rattle.framing.specs.Tests.{firstOf}
 use Rattle.packing.specs.Seven.{isSent, valueOf}
 use Rattle.packing.specs.Unpacked.{unpacked}
 use Rattle.checksum.specs.Sum.{sumOf}
-use Rattle.pcs.specs.Frame.{Message, plainOk, receiverOk, kindOk}
+use Rattle.pcs.specs.Frame.{Message, withFields, plainOk, receiverOk, kindOk}
 
 -- the store's size: a header of 8, at most 1,171 packed bytes and the sum
 abbrev pub size : ℕ
@@ -72,16 +72,7 @@ faultOf g =
 
 -- the message of gathered bytes, with its data
 abbrev pub messageWith : List ℕ → List ℕ → Message
-messageWith g d =
-    record {
-      receiver = getD g 0 0;
-      sender = getD g 1 0;
-      kind = getD g 2 0 - 4;
-      number = getD g 3 0;
-      sender-port = getD g 6 0;
-      receiver-port = getD g 7 0;
-      payload = d;
-    }
+messageWith g d = withFields (getD g 0 0) (getD g 1 0) (getD g 2 0 - 4) (getD g 3 0) (getD g 6 0) (getD g 7 0) d
 
 -- the last test: 13 where the data is badly packed
 abbrev pub unpack : List ℕ → List ℕ → Option (List ℕ) → Segment Message

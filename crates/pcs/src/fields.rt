@@ -29,10 +29,10 @@ pub fn receiver_ok(b: u8) -> bool
 }
 
 // Whether a kind is known, and may go with so many data bytes or packed bytes.
-pub fn kind_ok(kind: u8, length: usize) -> bool
-    ensures { λ r. ⌜ r ≡ kindOk kind length ⌝ }
+pub fn kind_ok(kind: u8, count: usize) -> bool
+    ensures { λ r. ⌜ r ≡ kindOk kind count ⌝ }
 {
-    kind <= 1 || (kind <= 3 && length == 0)
+    kind <= 1 || (kind <= 3 && count == 0)
 }
 
 // Whether the addresses, the number and the ports are allowed.
