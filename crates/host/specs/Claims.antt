@@ -11,8 +11,8 @@ use Rattle.framing.specs.Link.{Link}
 use Rattle.framing.specs.Whole.{readOn}
 use Rattle.host.specs.Read.{reads, refusalOf}
 
--- the refusals of each read, and no others: a short store, what its receiver gives of a stream, and 6 for bytes that are not one whole frame. So 4 and
--- 5 are not given on MDU, 7 on DLE and expansion only, 8 and 9 not on DLE, 10 not on expansion, 11 and 13 on PCS only, and 2, 3 and 12 by no read
+-- the refusals of each read, and no others: a short store, what its receiver gives of a stream, and 6 for bytes that are not one whole frame. So
+-- 4 and 5 are not given on MDU, 7 on DLE and expansion only, 8 and 9 not on DLE, 10 not on expansion, 11 and 13 on PCS only, 2, 3 and 12 by no read
 abbrev pub pcsRefusals : List ℕ
 pcsRefusals = 1 ∷ 4 ∷ 5 ∷ 6 ∷ 8 ∷ 9 ∷ 10 ∷ 11 ∷ 13 ∷ []
 
