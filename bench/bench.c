@@ -1,126 +1,155 @@
-/* Measures linebox against straightforward C, in one run: for each call the best time of several rounds of each, and the ratio of plain C's time
-   to linebox's (1.0 and above: linebox is at least as fast). Before a pair is timed its answers and memories are compared. */
+/* Measures linebox against C in one run: the sides, the calls, their inputs and the rows. The opponents' libraries are named on the command line. */
 #include "../include/linebox.h"
-#include "plain.h"
+#include "measure.h"
+#include <dlfcn.h>
 #include <stdio.h>
 #include <stdlib.h>
 #include <string.h>
-#include <time.h>
 #include <zlib.h>
 
 uint16_t bench_crc16(const uint8_t *p, size_t n);
 uint32_t bench_crc32(const uint8_t *p, size_t n);
 uint8_t bench_sum(const uint8_t *p, size_t n);
+size_t bench_pack(const uint8_t *data, size_t n, uint8_t *out, size_t room);
+size_t bench_unpack(uint8_t *store, size_t size, size_t from, size_t count);
 
-enum { ROUNDS = 40, MEGABYTE = 1 << 20 };
-static uint64_t sink;
+const struct side linebox = {"linebox", bench_crc16, bench_crc32, bench_sum, bench_pack, bench_unpack, linebox_pcs_write, linebox_mdu_write,
+    linebox_dle_write, linebox_expansion_write, linebox_pcs_read, linebox_mdu_read, linebox_dle_read, linebox_expansion_read};
 
-static double now(void) { struct timespec t; clock_gettime(CLOCK_MONOTONIC, &t); return t.tv_sec + t.tv_nsec * 1e-9; }
+static uint32_t zlib_crc32(const uint8_t *p, size_t n) { return (uint32_t)crc32(0, p, (uInt)n); }
+static const struct side zlib = {.way = "zlib", .crc32 = zlib_crc32};
+static const char *const ways[WAYS - 1] = {"bits", "table", "slices", "bytewise", "words", "plain_write", "runs_write", "plain_read", "runs_read"};
+const struct side *opponents[WAYS][COMPILERS] = {[WAYS - 1] = {0, &zlib}};
+
+uint8_t out[4096], store[2048];
+static size_t room = sizeof out, size = sizeof store; /* how much of them is lent */
+
+/* Unpacking needs its bytes in the store: they are laid there anew each time, on every side. */
+static size_t unpacked(const struct side *s, const uint8_t *p, size_t n) { memcpy(store, p, n); return s->unpack(store, sizeof store, 8, n - 8); }
+
+#define WORK(name, writes, f, call) \
+    static void (*f##_entry(const struct side *s))(void) { return (void (*)(void))s->f; } \
+    static uint64_t f##_run(const struct side *s, const uint8_t *p, size_t n) { return (uint64_t)(call); } \
+    static const struct work f##_work = {name, writes, f##_entry, f##_run};
+WORK("CRC-16", 0, crc16, s->crc16(p, n))
+WORK("CRC-32", 0, crc32, s->crc32(p, n))
+WORK("PCS sum", 0, sum, s->sum(p, n))
+WORK("PCS packing", 1, pack, s->pack(p, n, out, room))
+WORK("PCS unpacking", 0, unpack, unpacked(s, p, n))
+WORK("PCS write", 1, pcs_write, s->pcs_write(2, 250, 0, 4, 1, 1, p, n, out, room))
+WORK("MDU write", 1, mdu_write, s->mdu_write(13, p, n, out, room))
+WORK("DLE write", 1, dle_write, s->dle_write(7, 3, p, n, out, room))
+WORK("expansion write", 1, expansion_write, s->expansion_write(1, 0, 0, 5, p, n, out, room))
+WORK("PCS read", 0, pcs_read, s->pcs_read(p, n, store, size))
+WORK("MDU read", 0, mdu_read, s->mdu_read(p, n, store, size))
+WORK("DLE read", 0, dle_read, s->dle_read(p, n, store, size))
+WORK("expansion read", 0, expansion_read, s->expansion_read(p, n, store, size))
 
 static uint64_t state = 88172645463325252u;
-static uint8_t next(void) { state ^= state << 13; state ^= state >> 7; state ^= state << 17; return (uint8_t)(state >> 32); }
+static uint64_t next(void) { state ^= state << 13; state ^= state >> 7; state ^= state << 17; return state >> 16; }
 
-/* A case: what it is called, a run of bytes, and the two calls on it. Each call answers a number. */
-typedef uint64_t (*call)(const uint8_t *, size_t);
-static uint8_t out[4096], store[2048];
+/* The inputs of a row, made of as many payloads: a branch predictor does not learn them by heart as it would one. */
+enum { INPUTS = 32, LONGEST = 2100, ANY = -1, NOISE = 65536 };
+static uint8_t memory[INPUTS][LONGEST];
+static struct input inputs[INPUTS];
 
-static void compare(const char *name, const uint8_t *p, size_t n, call plain, call proved) {
-    static uint8_t o[2][4096], s[2][2048];
-    uint64_t r[2];
-    for (int w = 0; w < 2; w++) {
-        memset(out, 0xAA, sizeof out); memset(store, 0x55, sizeof store);
-        r[w] = (w ? proved : plain)(p, n);
-        memcpy(o[w], out, sizeof out); memcpy(s[w], store, sizeof store);
-    }
-    if (r[0] != r[1] || memcmp(o[0], o[1], sizeof out) || memcmp(s[0], s[1], sizeof store)) {
-        printf("%s: the two differ (%llx, %llx)\n", name, (unsigned long long)r[0], (unsigned long long)r[1]);
-        exit(1);
+/* Payloads of n bytes, of any bytes or all of one. */
+static void payloads(size_t n, int byte) {
+    for (int k = 0; k < INPUTS; k++) {
+        for (size_t i = 0; i < n; i++) memory[k][i] = (uint8_t)(byte == ANY ? next() : (uint64_t)byte);
+        inputs[k] = (struct input){memory[k], n};
     }
 }
 
-static double once(const uint8_t *p, size_t n, size_t times, call f) {
-    double t = now();
-    for (size_t i = 0; i < times; i++) sink += f(p, n);
-    return (now() - t) / (double)times;
-}
-
-/* Rounds of the two calls by turns, so that what else the machine does falls on both; the best round of each counts. */
-static void row(const char *name, const uint8_t *p, size_t n, call plain, call proved) {
-    compare(name, p, n, plain, proved);
-    size_t times = 1 + 400000 / (n + 32);
-    double a = 1e9, b = 1e9;
-    for (int k = 0; k < ROUNDS; k++) {
-        double s = once(p, n, times, plain), t = once(p, n, times, proved);
-        if (s < a) a = s;
-        if (t < b) b = t;
+/* In place of the payloads what linebox makes of them: frames, or packed bytes from place 8 on. */
+static void made(const struct work *writer, size_t before) {
+    for (int k = 0; k < INPUTS; k++) {
+        size_t n = (size_t)writer->run(&linebox, inputs[k].bytes, inputs[k].n);
+        memcpy(memory[k] + before, out, n);
+        inputs[k].n = before + n;
     }
-    printf("| %s | %zu | %.0f | %.0f | %.2f |\n", name, n, a * 1e9, b * 1e9, a / b);
-    fflush(stdout);
 }
 
-static uint64_t c16(const uint8_t *p, size_t n) { return plain_crc16(p, n); }
-static uint64_t l16(const uint8_t *p, size_t n) { return bench_crc16(p, n); }
-static uint64_t c32(const uint8_t *p, size_t n) { return plain_crc32(p, n); }
-static uint64_t l32(const uint8_t *p, size_t n) { return bench_crc32(p, n); }
-static uint64_t z32(const uint8_t *p, size_t n) { return crc32(0, p, (uInt)n); }
-static uint64_t cs(const uint8_t *p, size_t n) { return plain_sum(p, n); }
-static uint64_t ls(const uint8_t *p, size_t n) { return bench_sum(p, n); }
-
-static uint64_t cpw(const uint8_t *p, size_t n) { return (uint64_t)plain_pcs_write(2, 250, 0, 4, 1, 1, p, n, out, sizeof out); }
-static uint64_t lpw(const uint8_t *p, size_t n) { return (uint64_t)linebox_pcs_write(2, 250, 0, 4, 1, 1, p, n, out, sizeof out); }
-static uint64_t cmw(const uint8_t *p, size_t n) { return (uint64_t)plain_mdu_write(13, p, n, out, sizeof out); }
-static uint64_t lmw(const uint8_t *p, size_t n) { return (uint64_t)linebox_mdu_write(13, p, n, out, sizeof out); }
-static uint64_t cdw(const uint8_t *p, size_t n) { return (uint64_t)plain_dle_write(7, 3, p, n, out, sizeof out); }
-static uint64_t ldw(const uint8_t *p, size_t n) { return (uint64_t)linebox_dle_write(7, 3, p, n, out, sizeof out); }
-static uint64_t cxw(const uint8_t *p, size_t n) { return (uint64_t)plain_expansion_write(1, 0, 0, 5, p, n, out, sizeof out); }
-static uint64_t lxw(const uint8_t *p, size_t n) { return (uint64_t)linebox_expansion_write(1, 0, 0, 5, p, n, out, sizeof out); }
-static uint64_t cpr(const uint8_t *p, size_t n) { return plain_pcs_read(p, n, store, sizeof store); }
-static uint64_t lpr(const uint8_t *p, size_t n) { return linebox_pcs_read(p, n, store, sizeof store); }
-static uint64_t cmr(const uint8_t *p, size_t n) { return plain_mdu_read(p, n, store, sizeof store); }
-static uint64_t lmr(const uint8_t *p, size_t n) { return linebox_mdu_read(p, n, store, sizeof store); }
-static uint64_t cdr(const uint8_t *p, size_t n) { return plain_dle_read(p, n, store, sizeof store); }
-static uint64_t ldr(const uint8_t *p, size_t n) { return linebox_dle_read(p, n, store, sizeof store); }
-static uint64_t cxr(const uint8_t *p, size_t n) { return plain_expansion_read(p, n, store, sizeof store); }
-static uint64_t lxr(const uint8_t *p, size_t n) { return linebox_expansion_read(p, n, store, sizeof store); }
-
-static uint8_t data[2048], escapes[2048], noise[MEGABYTE], frame[4096];
-
-/* A frame of n data bytes, as linebox writes it; the receivers' rows read it. */
-static void reads(const char *name, const uint8_t *d, size_t n, call write, call plain, call proved) {
-    int32_t k = (int32_t)write(d, n);
-    memcpy(frame, out, (size_t)k);
-    row(name, frame, (size_t)k, plain, proved);
-}
-
-int main(void) {
-    for (size_t i = 0; i < sizeof data; i++) data[i] = next();
-    for (size_t i = 0; i < sizeof noise; i++) do noise[i] = next(); while (noise[i] == 253 || noise[i] == 0xE3 || noise[i] == 16);
-    puts("| Call | Bytes | C, ns | linebox, ns | ratio |\n|---|---|---|---|---|");
-    for (size_t n = 16; n <= 1024; n *= 4) row("CRC-16", data, n, c16, l16);
-    for (size_t n = 16; n <= 1024; n *= 4) row("CRC-32", data, n, c32, l32);
-    row("CRC-32, against zlib", data, 1024, z32, l32);
-    row("PCS sum", data, 1024, cs, ls);
-    for (size_t n = 16; n <= 1024; n *= 4) row("PCS write", data, n, cpw, lpw);
-    for (size_t n = 16; n <= 1024; n *= 4) row("MDU write", data, n, cmw, lmw);
-    for (size_t n = 15; n <= 255; n *= 4) row("DLE write", data, n, cdw, ldw);
-    memset(escapes, 16, sizeof escapes);
-    row("DLE write, all escapes", escapes, 255, cdw, ldw);
-    for (size_t n = 16; n <= 1024; n *= 4) row("expansion write", data, n, cxw, lxw);
-    memset(escapes, 0xFF, sizeof escapes);
-    row("expansion write, all escapes", escapes, 1024, cxw, lxw);
-    for (size_t n = 16; n <= 1024; n *= 4) reads("PCS read", data, n, lpw, cpr, lpr);
-    for (size_t n = 16; n <= 1024; n *= 4) reads("MDU read", data, n, lmw, cmr, lmr);
-    for (size_t n = 15; n <= 255; n *= 4) reads("DLE read", data, n, ldw, cdr, ldr);
-    memset(escapes, 16, sizeof escapes);
-    reads("DLE read, all escapes", escapes, 255, ldw, cdr, ldr);
-    for (size_t n = 16; n <= 1024; n *= 4) reads("expansion read", data, n, lxw, cxr, lxr);
-    memset(escapes, 0xFF, sizeof escapes);
-    reads("expansion read, all escapes", escapes, 1024, lxw, cxr, lxr);
-    for (size_t n = MEGABYTE / 16; n <= MEGABYTE; n *= 16) {
-        row("PCS, noise", noise, n, cpr, lpr);
-        row("MDU, noise", noise, n, cmr, lmr);
-        row("DLE, noise", noise, n, cdr, ldr);
-        row("expansion, noise", noise, n, cxr, lxr);
+/* The sides agree on the inputs damaged in some bytes, cut or lengthened, and in less memory too: so on what is refused. */
+static void damaged(const struct work *w, size_t least) {
+    static uint8_t wrong[LONGEST + 1];
+    for (int k = 0; k < 100 * INPUTS; k++) {
+        size_t n = inputs[k % INPUTS].n;
+        memcpy(wrong, inputs[k % INPUTS].bytes, n);
+        for (size_t i = next() % 4; i > 0; i--) wrong[next() % n] = (uint8_t)(next() % 2 ? next() : next() % 2 ? 16 : 253 + next() % 3);
+        if (next() % 4 == 0) n = least + next() % (n + 1 - least);
+        else if (next() % 4 == 0) wrong[n++] = (uint8_t)next();
+        room = next() % 4 ? sizeof out : next() % LONGEST;
+        size = next() % 8 ? sizeof store : next() % sizeof store;
+        agree(w, &(struct input){wrong, n}, 1);
     }
-    return sink == 1;
+    room = sizeof out;
+    size = sizeof store;
+}
+
+static void row(const char *name, const struct work *w, size_t n, int byte) {
+    payloads(n, byte);
+    damaged(w, 0);
+    measure(name, w, inputs, INPUTS);
+}
+
+static void row_of(const char *name, const struct work *w, const struct work *writer, size_t n, int byte) {
+    size_t before = w == &unpack_work ? 8 : 0;
+    payloads(n, byte);
+    made(writer, before);
+    damaged(w, before);
+    measure(name, w, inputs, INPUTS);
+}
+
+static void noise_row(const char *name, const struct work *w, size_t n) {
+    static uint8_t noise[NOISE];
+    for (size_t i = 0; i < n; i++) do noise[i] = (uint8_t)next(); while (noise[i] == 253 || noise[i] == 0xE3 || noise[i] == 16);
+    measure(name, w, &(struct input){noise, n}, 1);
+}
+
+static void values(void) {
+    static const size_t sizes[] = {4, 16, 64, 95, 96, 256, 1024};
+    for (size_t i = 0; i < sizeof sizes / sizeof *sizes; i++) row("CRC-16", &crc16_work, sizes[i], ANY);
+    for (size_t i = 0; i < sizeof sizes / sizeof *sizes; i++) row("CRC-32", &crc32_work, sizes[i], ANY);
+    for (size_t n = 16; n <= 1024; n *= 8) row("PCS sum", &sum_work, n, ANY);
+    for (size_t n = 16; n <= 1024; n *= 8) row("PCS packing", &pack_work, n, ANY);
+    for (size_t n = 16; n <= 1024; n *= 8) row_of("PCS unpacking", &unpack_work, &pack_work, n, ANY);
+}
+
+static void frames(size_t n) {
+    row("PCS write", &pcs_write_work, n, ANY);
+    row_of("PCS read", &pcs_read_work, &pcs_write_work, n, ANY);
+    row("MDU write", &mdu_write_work, n, ANY);
+    row_of("MDU read", &mdu_read_work, &mdu_write_work, n, ANY);
+    row("expansion write", &expansion_write_work, n, ANY);
+    row_of("expansion read", &expansion_read_work, &expansion_write_work, n, ANY);
+}
+
+static void dle_frames(size_t n) {
+    row("DLE write", &dle_write_work, n, ANY);
+    row_of("DLE read", &dle_read_work, &dle_write_work, n, ANY);
+}
+
+int main(int argc, char **argv) {
+    for (int c = 0; c < COMPILERS && c + 1 < argc; c++) {
+        void *library = dlopen(argv[c + 1], RTLD_NOW);
+        for (int k = 0; k < WAYS - 1; k++)
+            if (!library || !(opponents[k][c] = dlsym(library, ways[k]))) { printf("%s: %s\n", argv[c + 1], dlerror()); return 1; }
+    }
+    values();
+    for (size_t n = 1; n <= 1024; n *= 4) frames(n);
+    for (size_t n = 1; n <= 4; n++) dle_frames(n);
+    for (size_t n = 15; n <= 240; n *= 4) dle_frames(n);
+    row("DLE write, all hidden", &dle_write_work, 255, 16);
+    row_of("DLE read, all hidden", &dle_read_work, &dle_write_work, 255, 16);
+    row("expansion write, all hidden", &expansion_write_work, 1024, 0xFF);
+    row_of("expansion read, all hidden", &expansion_read_work, &expansion_write_work, 1024, 0xFF);
+    for (size_t n = NOISE / 16; n <= NOISE; n *= 16) {
+        noise_row("PCS, noise", &pcs_read_work, n);
+        noise_row("MDU, noise", &mdu_read_work, n);
+        noise_row("DLE, noise", &dle_read_work, n);
+        noise_row("expansion, noise", &expansion_read_work, n);
+    }
+    print_tables();
+    return 0;
 }

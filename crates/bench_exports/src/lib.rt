@@ -1,5 +1,8 @@
-// The check values, exported for the benchmark alone: the C interface of linebox has whole frames only.
+// The check values and the packing, exported for the benchmark alone: the C interface of linebox has whole frames only.
 ghost use mathlib.Core.Path.{_≡_};
+ghost use Rattle.framing.specs.Answer.{countOf, storedAt};
+ghost use Rattle.packing.specs.Packed.{packed};
+ghost use Rattle.packing.specs.Contract.{unpackedIn};
 ghost use Rattle.checksum.specs.Crc.{crc16Of, crc32Of};
 ghost use Rattle.checksum.specs.Sum.{sumOf};
 
@@ -22,4 +25,22 @@ pub extern "C" fn bench_sum(bytes: &[u8]) -> u8
     ensures { λ r. ⌜ r ≡ sumOf (now (bytes .entry)) ⌝ }
 {
     checksum::sum(bytes)
+}
+
+// Packs the data into out and answers the count of bytes, 0 where they do not fit.
+#[no_mangle]
+pub extern "C" fn bench_pack(data: &[u8], out: &mut [u8]) -> usize
+    ensures count { λ r. ⌜ r ≡ countOf (storedAt (packed (now («data» .entry))) (now (out .entry)) 0 .0) ⌝ }
+    ensures put { λ r. ⌜ now (out .exit) ≡ storedAt (packed (now («data» .entry))) (now (out .entry)) 0 .1 ⌝ }
+{
+    framing::count_of(packing::pack_into(data, out, 0))
+}
+
+// Unpacks the count bytes from place from on to place 0 and answers the count of data bytes, 0 where they are badly packed.
+#[no_mangle]
+pub extern "C" fn bench_unpack(store: &mut [u8], from: usize, count: usize) -> usize
+    ensures count { λ r. ⌜ r ≡ countOf (unpackedIn (now (store .entry)) from «count» .0) ⌝ }
+    ensures put { λ r. ⌜ now (store .exit) ≡ unpackedIn (now (store .entry)) from «count» .1 ⌝ }
+{
+    framing::count_of(packing::unpack_in_place(store, from, count))
 }

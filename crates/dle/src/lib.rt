@@ -71,10 +71,10 @@ fn put_frame(header: &[u8], data: &[u8], out: &mut [u8]) -> usize
     ensures put { λ r. ⌜ now (out .exit) ≡ sets (now (out .entry)) 0 (enclose (now (header .entry) ++ now («data» .entry))) ⌝ }
 {
     put_mark(out, 0, 0x10, 0x02);
-    let head = escape::dle_hide_into(header, out, 2);
-    let place = 2 + framing::count_of(head);
-    let rest = escape::dle_hide_into(data, out, place);
-    let end = place + framing::count_of(rest);
+    let hidden_header = escape::dle_hide_into(header, out, 2);
+    let place = 2 + framing::count_of(hidden_header);
+    let hidden_data = escape::dle_hide_into(data, out, place);
+    let end = place + framing::count_of(hidden_data);
     put_mark(out, end, 0x10, 0x03);
     end + 2
 }
@@ -95,7 +95,8 @@ fn has_room(header: &[u8], data: &[u8], memory: usize) -> bool
 // Writes a frame that may be sent, if the memory holds it: nothing is stored before that is known.
 fn send(header: &[u8], data: &[u8], out: &mut [u8]) -> Answer
     requires { ⌜ length (now header) + length (now «data») ≤ size ⌝ }
-    ensures { λ r. ⌜ (outcomeOf r, now (out .exit)) ≡ storedAt (enclose (now (header .entry) ++ now («data» .entry))) (now (out .entry)) 0 ⌝ }
+    ensures { λ r. ⌜ (outcomeOf r, now (out .exit))
+        ≡ storedAt (enclose (now (header .entry) ++ now («data» .entry))) (now (out .entry)) 0 ⌝ }
 {
     if has_room(header, data, out.len()) {
         let n = put_frame(header, data, out);
@@ -170,7 +171,8 @@ fn begin(state: State, byte: u8) -> Stepped
 fn gather_byte(state: State, store: &mut [u8], byte: u8) -> Stepped
     requires { ⌜ Open state (now store) ⌝ }
     ensures stepped { λ r. ⌜ ((wire : List ℕ) → ByRules state (gather (take (state .count) (now (store .entry))) byte wire) r) ⌝ }
-    ensures stored { λ r. ⌜ ((wire : List ℕ) → now (store .exit) ≡ over (gathered (gather (take (state .count) (now (store .entry))) byte wire .0)) (now (store .entry))) ⌝ }
+    ensures stored { λ r. ⌜ ((wire : List ℕ) → now (store .exit)
+        ≡ over (gathered (gather (take (state .count) (now (store .entry))) byte wire .0)) (now (store .entry))) ⌝ }
 {
     let at = state.count;
     if at < SIZE {
@@ -251,8 +253,10 @@ fn judge_frame(gathered: &[u8]) -> Event
 // A wire byte of an open frame, by its meaning.
 fn act_on(state: State, store: &mut [u8], meaning: Meaning) -> Stepped
     requires { ⌜ Open state (now store) ⌝ }
-    ensures stepped { λ r. ⌜ ((wire : List ℕ) → ByRules state (act (take (state .count) (now (store .entry))) wire (meaningOf meaning)) r) ⌝ }
-    ensures stored { λ r. ⌜ ((wire : List ℕ) → now (store .exit) ≡ over (gathered (act (take (state .count) (now (store .entry))) wire (meaningOf meaning) .0)) (now (store .entry))) ⌝ }
+    ensures stepped { λ r. ⌜ ((wire : List ℕ)
+        → ByRules state (act (take (state .count) (now (store .entry))) wire (meaningOf meaning)) r) ⌝ }
+    ensures stored { λ r. ⌜ ((wire : List ℕ) → now (store .exit)
+        ≡ over (gathered (act (take (state .count) (now (store .entry))) wire (meaningOf meaning) .0)) (now (store .entry))) ⌝ }
 {
     match meaning {
         Meaning::Byte(byte) => gather_byte(state, store, byte),
@@ -437,10 +441,5 @@ pub fn receive(state: State, store: &mut [u8], piece: &[u8]) -> Received
 pub fn data(store: &[u8], message: Message) -> &[u8]
     ensures { λ r. ⌜ now r ≡ dataOf (now (store .entry)) message ⌝ }
 {
-    let end = 3 + wide(message.length);
-    if end <= store.len() {
-        &store[3..end]
-    } else {
-        &store[..0]
-    }
+    framing::data_at(store, 3, wide(message.length))
 }

@@ -7,7 +7,7 @@ use lib.Dec.{eqb}
 use Rattle.framing.specs.State.{freshState, knownState, stateAfter}
 use Rattle.framing.specs.Link.{Link, Lent, Told, nothing, accepted, refused, dataAt}
 use Rattle.framing.specs.declared.State.{State}
-use Rattle.expansion.specs.Frame.{Typed, ok, frame}
+use Rattle.expansion.specs.Frame.{Typed, withFields, ok, frame}
 use Rattle.expansion.specs.Frame as Frame
 use Rattle.expansion.specs.Rules.{Phase, hunting, inside, size, gathered, held, onByte}
 use Rattle.expansion.specs.declared.Message.{Message}
@@ -34,7 +34,7 @@ dataOf store m = dataAt 4 (m .length) store
 
 -- the message that a caller has of its numbers and the store
 abbrev pub messageOf : List ℕ → Message → Frame.Message
-messageOf store m = record { id = m .id; kind = m .kind; repeat = m .repeat; address = m .address; payload = dataOf store m }
+messageOf store m = withFields (m .id) (m .kind) (m .repeat) (m .address) (dataOf store m)
 
 -- the link: three modes, of which the first hunts
 abbrev pub link : Link

@@ -25,9 +25,13 @@ pub record Typed (m : Message) : Type 0 where
   pub address : m .address < 256
   pub payload : Bytes (m .payload)
 
+-- the message with these fields, in the order of a writer's call, and its data
+abbrev pub withFields : ℕ → ℕ → ℕ → ℕ → List ℕ → Message
+withFields id kind repeat address d = record { id = id; kind = kind; repeat = repeat; address = address; payload = d }
+
 -- types 0 request, 1 acknowledgement, 2 check error; the latter two carry no data
 abbrev pub kindOk : ℕ → ℕ → Bool
-kindOk kind length = eqb kind 0 || (leb kind 2 && eqb length 0)
+kindOk kind n = eqb kind 0 || (leb kind 2 && eqb n 0)
 
 -- a message that may be sent: a known type, a repeat of at most 3, at most 1,024 bytes of data
 abbrev pub ok : Message → Bool

@@ -11,7 +11,7 @@ use Rattle.framing.specs.Tests.{firstOf}
 use Rattle.checksum.specs.Crc.{crc32Of}
 use Rattle.escape.specs.Code.{Meaning, byte, waits, start, end, wrong, meaning, hide}
 use Rattle.escape.specs.Expansion as Escape
-use Rattle.expansion.specs.Frame.{Message, kindOk}
+use Rattle.expansion.specs.Frame.{Message, withFields, kindOk}
 
 -- the store's size: a header of 4, at most 1,024 of data and the CRC of 4
 abbrev pub size : ℕ
@@ -50,8 +50,7 @@ faultOf g =
 
 -- the message of gathered bytes
 abbrev pub messageIn : List ℕ → Message
-messageIn g =
-    record { id = getD g 0 0; kind = getD g 1 0; repeat = getD g 2 0; address = getD g 3 0; payload = take (length g - 8) (drop 4 g) }
+messageIn g = withFields (getD g 0 0) (getD g 1 0) (getD g 2 0) (getD g 3 0) (take (length g - 8) (drop 4 g))
 
 -- the end of a frame of these wire bytes
 abbrev pub judge : List ℕ → List ℕ → Segment Message

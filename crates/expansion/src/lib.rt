@@ -19,7 +19,7 @@ ghost use Rattle.framing.specs.Segment.{eventOf};
 ghost use Rattle.framing.specs.Link.{isEvent, told, stepOn, reported, receives};
 ghost use Rattle.escape.specs.Code.{meaningOf, meaning};
 ghost use Rattle.escape.specs.Expansion as Escape;
-ghost use Rattle.expansion.specs.Frame.{kindOk, ok, enclose, frame};
+ghost use Rattle.expansion.specs.Frame.{withFields, kindOk, ok, enclose, frame};
 ghost use Rattle.expansion.specs.Rules.{hunting, size, checkRight, faultOf, messageIn, judge, gather, act, onByte};
 ghost use Rattle.expansion.specs.Contract.{phaseOf, numbersOf, dataOf, link, toldOf, receivedOf};
 ghost use Rattle.expansion.specs.Steps.{ByRules, Room, Passes};
@@ -57,39 +57,40 @@ struct Stepped {
 }
 
 // Whether a message of this type may carry so much data.
-fn kind_ok(kind: u8, length: usize) -> bool
-    ensures { λ r. ⌜ r ≡ kindOk kind length ⌝ }
+fn kind_ok(kind: u8, count: usize) -> bool
+    ensures { λ r. ⌜ r ≡ kindOk kind count ⌝ }
 {
-    kind == 0 || (kind <= 2 && length == 0)
+    kind == 0 || (kind <= 2 && count == 0)
 }
 
 // Whether the fields of a message with so much data are allowed.
-fn fields_ok(kind: u8, repeat: u8, length: usize) -> bool
-    ensures { λ r. ⌜ r ≡ (kindOk kind length && leb repeat 3) ⌝ }
+fn fields_ok(kind: u8, repeat: u8, count: usize) -> bool
+    ensures { λ r. ⌜ r ≡ (kindOk kind count && leb repeat 3) ⌝ }
 {
-    kind_ok(kind, length) && repeat <= 3
+    kind_ok(kind, count) && repeat <= 3
 }
 
 // Whether a message may be sent.
-fn is_sendable(kind: u8, repeat: u8, length: usize) -> bool
-    ensures { λ r. ⌜ r ≡ (kindOk kind length && (leb repeat 3 && leb length 1024)) ⌝ }
+fn is_sendable(kind: u8, repeat: u8, count: usize) -> bool
+    ensures { λ r. ⌜ r ≡ (kindOk kind count && (leb repeat 3 && leb count 1024)) ⌝ }
 {
-    fields_ok(kind, repeat, length) && length <= 1024
+    fields_ok(kind, repeat, count) && count <= 1024
 }
 
 // Stores a frame at the start, and answers its length.
 fn put_frame(header: &[u8], data: &[u8], trailer: &[u8], out: &mut [u8]) -> usize
     requires { ⌜ length (enclose (now header ++ (now «data» ++ now trailer))) ≤ length (now out) ⌝ }
     ensures long { λ r. ⌜ r ≡ length (enclose (now (header .entry) ++ (now («data» .entry) ++ now (trailer .entry)))) ⌝ }
-    ensures put { λ r. ⌜ now (out .exit) ≡ sets (now (out .entry)) 0 (enclose (now (header .entry) ++ (now («data» .entry) ++ now (trailer .entry)))) ⌝ }
+    ensures put { λ r. ⌜ now (out .exit)
+        ≡ sets (now (out .entry)) 0 (enclose (now (header .entry) ++ (now («data» .entry) ++ now (trailer .entry)))) ⌝ }
 {
     out[0] = 0xFD;
-    let head = escape::expansion_hide_into(header, out, 1);
-    let a = 1 + framing::count_of(head);
-    let body = escape::expansion_hide_into(data, out, a);
-    let b = a + framing::count_of(body);
-    let check = escape::expansion_hide_into(trailer, out, b);
-    let c = b + framing::count_of(check);
+    let hidden_header = escape::expansion_hide_into(header, out, 1);
+    let a = 1 + framing::count_of(hidden_header);
+    let hidden_data = escape::expansion_hide_into(data, out, a);
+    let b = a + framing::count_of(hidden_data);
+    let hidden_trailer = escape::expansion_hide_into(trailer, out, b);
+    let c = b + framing::count_of(hidden_trailer);
     out[c] = 0xFE;
     c + 1
 }
@@ -121,7 +122,8 @@ fn has_room(header: &[u8], data: &[u8], trailer: &[u8], memory: usize) -> bool
 // Stores a frame at the start, if it fits.
 fn send(header: &[u8], data: &[u8], trailer: &[u8], out: &mut [u8]) -> Answer
     requires { ⌜ length (now header ++ (now «data» ++ now trailer)) ≤ size ⌝ }
-    ensures { λ r. ⌜ (outcomeOf r, now (out .exit)) ≡ storedAt (enclose (now (header .entry) ++ (now («data» .entry) ++ now (trailer .entry)))) (now (out .entry)) 0 ⌝ }
+    ensures { λ r. ⌜ (outcomeOf r, now (out .exit))
+        ≡ storedAt (enclose (now (header .entry) ++ (now («data» .entry) ++ now (trailer .entry)))) (now (out .entry)) 0 ⌝ }
 {
     if has_room(header, data, trailer, out.len()) {
         let n = put_frame(header, data, trailer, out);
@@ -133,7 +135,8 @@ fn send(header: &[u8], data: &[u8], trailer: &[u8], out: &mut [u8]) -> Answer
 
 // Writes the frame of a message at the start of the lent memory, and answers its length.
 pub fn write(id: u8, kind: u8, repeat: u8, address: u8, data: &[u8], out: &mut [u8]) -> Answer
-    ensures { λ r. ⌜ (outcomeOf r, now (out .exit)) ≡ writes ok frame (record { id = id; kind = kind; repeat = repeat; address = address; payload = now («data» .entry) }) (now (out .entry)) ⌝ }
+    ensures { λ r. ⌜ (outcomeOf r, now (out .exit))
+        ≡ writes ok frame (withFields id kind repeat address (now («data» .entry))) (now (out .entry)) ⌝ }
 {
     if is_sendable(kind, repeat, data.len()) {
         let header = [id, kind, repeat, address];
@@ -167,7 +170,8 @@ fn hunt(state: State, byte: u8) -> Stepped
 // One more byte is gathered, unless the link's size is reached.
 fn gather_byte(state: State, store: &mut [u8], byte: u8) -> Stepped
     requires { ⌜ (state .mode ≡ 0 → ⊥) × Room state (now store) ⌝ }
-    ensures { λ r. ⌜ ((wire : List ℕ) → ByRules state (now (store .entry)) (gather (take (state .count) (now (store .entry))) byte wire) r (now (store .exit))) ⌝ }
+    ensures { λ r. ⌜ ((wire : List ℕ)
+        → ByRules state (now (store .entry)) (gather (take (state .count) (now (store .entry))) byte wire) r (now (store .exit))) ⌝ }
 {
     let at = state.count;
     if at < SIZE {
@@ -249,7 +253,9 @@ fn meaning_in(mode: usize, byte: u8) -> Meaning
 // A byte of an open frame, by its meaning.
 fn act_on(state: State, store: &mut [u8], meaning: Meaning) -> Stepped
     requires { ⌜ (state .mode ≡ 0 → ⊥) × Room state (now store) ⌝ }
-    ensures { λ r. ⌜ ((before wire : List ℕ) → ByRules state (now (store .entry)) (act (take (state .count) (now (store .entry))) before wire (meaningOf meaning)) r (now (store .exit))) ⌝ }
+    ensures { λ r. ⌜ ((before wire : List ℕ)
+        → ByRules state (now (store .entry)) (act (take (state .count) (now (store .entry))) before wire (meaningOf meaning))
+        r (now (store .exit))) ⌝ }
 {
     match meaning {
         Meaning::Byte(byte) => gather_byte(state, store, byte),
@@ -387,14 +393,5 @@ pub fn receive(state: State, store: &mut [u8], piece: &[u8]) -> Received
 pub fn data(store: &[u8], message: Message) -> &[u8]
     ensures { λ r. ⌜ now r ≡ dataOf (now (store .entry)) message ⌝ }
 {
-    let length = message.length;
-    if store.len() < 4 {
-        return &store[..0];
-    }
-    if length <= store.len() - 4 {
-        let end = 4 + length;
-        &store[4..end]
-    } else {
-        &store[..0]
-    }
+    framing::data_at(store, 4, message.length)
 }

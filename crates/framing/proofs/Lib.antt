@@ -1,6 +1,7 @@
 -- `Stored`: runs stored into lent memory. `Feed`, `Cutting`: any machine, fed and driven. `Segments`: the rules' segments. `Tests`: tests in their
 -- order. `Calls`: lists of calls told by self-delimiting frames. `Byte`: what a link has to show of each byte. `Lawful`: what else, and the claims
--- from it. `Wire`: of what any calls leave. `Whole`: of a host's call. `Refusals`: the numbers. `Places`: the store. `States`, `Loop`, `Passing`: for a link's code.
+-- from it. `Wire`: of what any calls leave. `Whole`: of a host's call. `Refusals`: the numbers. `Places`: the store. `States`, `Loop`, `Passing`,
+-- `Data`: for a link's code.
 pub mod Stored
 pub mod Feed
 pub mod Cutting
@@ -16,3 +17,4 @@ pub mod Places
 pub mod States
 pub mod Loop
 pub mod Passing
+pub mod Data

@@ -5,6 +5,7 @@ pub mod refusal;
 ghost use mathlib.Core.Path.{_≡_};
 ghost use Prim.Native.Nat.{_+_, _%_, _^_};
 ghost use Rattle.framing.specs.Answer.{outcomeOf, countOf};
+ghost use Rattle.framing.specs.Link.{dataAt};
 ghost use Rattle.framing.specs.State.{freshState, knownState, afterNoise, huntedFrom};
 
 // The answer of a call that makes bytes: how many, or the number of a refusal.
@@ -147,4 +148,19 @@ pub fn close(state: State) -> State
     ensures { λ r. ⌜ r ≡ record { mode = 0; count = 0; «open» = 0; noise = state .noise } ⌝ }
 {
     reopen(state, 0, 0, 0)
+}
+
+// So many bytes of a store from a place on, as a part of it: the data of a message. Empty where they do not lie in the store.
+pub fn data_at(store: &[u8], place: usize, count: usize) -> &[u8]
+    ensures { λ r. ⌜ now r ≡ dataAt place count (now (store .entry)) ⌝ }
+{
+    if store.len() < place {
+        return &store[..0];
+    }
+    if count <= store.len() - place {
+        let end = place + count;
+        &store[place..end]
+    } else {
+        &store[..0]
+    }
 }

@@ -81,23 +81,28 @@ pub record Sendable (m : Frame.Message) : Type 0 where
 -- every reply is such a message
 abbrev pub ReplySendable : Type 0
 ReplySendable =
-    (head : Bool) (a : Responder) (t : Told Message) (store : List ℕ) (m : Frame.Message) → responds head a t store .reply ≡ some m → Sendable m
+    (head : Bool) (a : Responder) (t : Told Message) (store : List ℕ) (m : Frame.Message)
+    → responds head a t store .reply ≡ some m → Sendable m
 
 -- where the receiver tells 8, what is made of its answer and of the store after the call is a check error with the id and, from the head, the
 -- address of the gathered bytes of the refused frame, which are at least eight
 abbrev pub CheckErrorAsGathered : Type 0
 CheckErrorAsGathered =
-    (head : Bool) (a : Responder) (c : Lent link) (piece : List ℕ) → receives link c piece .0 ≡ refused 8
-    → (8 ≤ length (gatheredBefore c piece))
-    × (responds head a (receives link c piece .0) (receives link c piece .2 .1)
-    ≡ record { reply = some (reply head (getD (gatheredBefore c piece) 0 0) 2 (getD (gatheredBefore c piece) 3 0)); handsOut = false; after = a })
+    (head : Bool) (a : Responder) (c : Lent link) (piece : List ℕ)
+    → let call = receives link c piece in
+    let g = gatheredBefore c piece in
+    call .0 ≡ refused 8
+    → (8 ≤ length g)
+    × (responds head a (call .0) (call .2 .1)
+    ≡ record { reply = some (reply head (getD g 0 0) 2 (getD g 3 0)); handsOut = false; after = a })
 
 -- in a stream, cut anywhere, that a fresh receiver reads, they are the id and the address that the refused frame has on the wire
 abbrev pub CheckErrorAsSent : Type 0
 CheckErrorAsSent =
     (head : Bool) (a : Responder) (pieces : List (List ℕ)) (piece store : List ℕ) → Bytes (join pieces ++ piece) → size ≤ length store
-    → receives link (afterStream pieces store) piece .0 ≡ refused 8
+    → let call = receives link (afterStream pieces store) piece in
+    call .0 ≡ refused 8
     → (g : List ℕ)
-    × RefusedFrame (join pieces ++ take (receives link (afterStream pieces store) piece .1) piece) (receives link (afterStream pieces store) piece .2 .1) g
-    × (responds head a (receives link (afterStream pieces store) piece .0) (receives link (afterStream pieces store) piece .2 .1)
+    × RefusedFrame (join pieces ++ take (call .1) piece) (call .2 .1) g
+    × (responds head a (call .0) (call .2 .1)
     ≡ record { reply = some (reply head (getD g 0 0) 2 (getD g 3 0)); handsOut = false; after = a })

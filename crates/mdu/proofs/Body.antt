@@ -25,7 +25,7 @@ use Rattle.mdu.specs.Contract.{knownState, stateAfter, link}
 use Rattle.mdu.specs.Steps.{ToCome, Passes}
 use Rattle.mdu.specs.declared.State.{State}
 use Rattle.mdu.proofs.Known.{bodyState, body-known, known-open}
-use Rattle.mdu.proofs.Store.{tail-goes-on}
+use Rattle.mdu.proofs.Store.{body-goes-on}
 
 -- n bytes of noise in plain hunting; a first one clears what stands in `length`
 abbrev hunted : State → ℕ → State
@@ -67,7 +67,7 @@ module _ (k : ℕ) where
   body-step : (at o z : ℕ) (store : List ℕ) (b : ℕ) → 6 ≤ at → at < 7 + k → at < length store
       → stepOn link (body at o z, store) b ≡ ((body (at + 1) ((o + 1) % 2 ^ 32) z, set store at b), none)
   body-step at o z store b low high room =
-      let e : onByte (inBody k (take at store)) b ≡ (inBody k (take at store ++ (b ∷ [])), none) = tail-goes-on store at b room k (omega arith) in
+      let e : onByte (inBody k (take at store)) b ≡ (inBody k (take at store ++ (b ∷ [])), none) = body-goes-on store at b room k (omega arith) in
       rw (le-ltb at 6 low)
       (ap (λ (r : Phase × Option (Segment Message)). ((stateAfter (body at o z) (r .0) (r .1), over (take at store ++ (b ∷ [])) store), eventOf (r .1))) e
       ∙ (λ i. ((body (more-count store at b (omega arith) i) ((o + 1) % 2 ^ 32) z, sym (more-over store at b room) i), none)))

@@ -87,11 +87,11 @@ module _ (s : State) (h : knownState s ≡ true) (opened : s .base .mode ≡ 0 �
   counted : cond (ltb (s .base .count) 6) (leb 1 (s .base .count)) (lengthOk (s .length) && ltb (s .base .count) (8 + s .length)) ≡ true
   counted = rw (ne-eqb (s .base .mode) 0 opened) at (both s h .1)
 
-  pub known-head : s .base .count < 6 → 1 ≤ s .base .count
-  known-head l = leb-true 1 (s .base .count) (rw (lt-ltb (s .base .count) 6 l) at counted)
+  pub known-header : s .base .count < 6 → 1 ≤ s .base .count
+  known-header l = leb-true 1 (s .base .count) (rw (lt-ltb (s .base .count) 6 l) at counted)
 
-  pub known-tail : 6 ≤ s .base .count → ToCome (s .length) (s .base .count)
-  known-tail l =
+  pub known-body : 6 ≤ s .base .count → ToCome (s .length) (s .base .count)
+  known-body l =
       let all = and-both (lengthOk (s .length)) (ltb (s .base .count) (8 + s .length)) (rw (le-ltb (s .base .count) 6 l) at counted) in
       record { allowed = all .0; low = l; high = ltb-true (s .base .count) (8 + s .length) (all .1); most = length-most (s .length) (all .0) }
 
@@ -99,8 +99,8 @@ pub known-sized : (s : State) (store : List ℕ) → knownState s ≡ true → s
 known-sized s store h room =
     by-eqb Sized (s .base .mode) 0 (λ _. tt)
     (λ o. by-ltb Sized (s .base .count) 6
-    (λ l. rw (length-take-le (s .base .count) store (omega arith)) (known-head s h o l, l))
-    (λ l. let b = known-tail s h o l in rw (length-take-le (s .base .count) store (omega arith)) b))
+    (λ l. rw (length-take-le (s .base .count) store (omega arith)) (known-header s h o l, l))
+    (λ l. let b = known-body s h o l in rw (length-take-le (s .base .count) store (omega arith)) b))
 
 -- a known state stays known after any byte
 pub known-next : (s : State) (store : List ℕ) (b : ℕ) → knownState s ≡ true → size ≤ length store

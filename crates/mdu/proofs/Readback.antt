@@ -32,11 +32,11 @@ header-quiet k a n low allowed =
     (quiet-cons (step onByte) (step-open onByte (inHeader (five k a)) (inBody k (header k a)) n (headerSum (five k a)) (enter-header k a low allowed))
     (quiet-nil (step onByte) (at (inBody k (header k a)) n)))))))
 
-tail-quiet : (k n : ℕ) (g xs : List ℕ) → length g + length xs ≤ 7 + k → Quiet (step onByte) (at (inBody k g) n) xs (at (inBody k (g ++ xs)) n)
-tail-quiet k n g [] h = rw append-nil (quiet-nil (step onByte) (at (inBody k g) n))
-tail-quiet k n g (x ∷ xs) h =
+body-quiet : (k n : ℕ) (g xs : List ℕ) → length g + length xs ≤ 7 + k → Quiet (step onByte) (at (inBody k g) n) xs (at (inBody k (g ++ xs)) n)
+body-quiet k n g [] h = rw append-nil (quiet-nil (step onByte) (at (inBody k g) n))
+body-quiet k n g (x ∷ xs) h =
     quiet-cons (step onByte) (step-open onByte (inBody k g) (inBody k (g ++ (x ∷ []))) n x (rw (ne-eqb (length g) (7 + k) (omega arith))))
-    (rw append-snoc at (tail-quiet k n (g ++ (x ∷ [])) xs (simp length-append (omega arith))))
+    (rw append-snoc at (body-quiet k n (g ++ (x ∷ [])) xs (simp length-append (omega arith))))
 
 finish-frame : (m : Message) → finish (length (m .body)) (frame m) ≡ acceptedFrame m
 finish-frame m = rw (body-is, eq-eqb (sentCheck k (frame m)) c check)
@@ -66,7 +66,7 @@ reads-frame m rest n h =
     ap (λ (w : List ℕ). feed (step onByte) (at hunting n) (w ++ rest)) whole
     ∙ feed-event (step onByte) start (c % 256) rest
     (quiet-append (step onByte) (header k a) (header-quiet k a n low (o .1))
-    (tail-quiet k n (header k a) (m .body ++ (c / 256 ∷ [])) (simp length-append (omega arith))))
+    (body-quiet k n (header k a) (m .body ++ (c / 256 ∷ [])) (simp length-append (omega arith))))
     (step-accept onByte (inBody k start) hunting n (c % 256) m last-byte)
     ∙ ap (λ (w : List ℕ). record { event = some (message m); used = length w; after = at hunting n }) (sym whole)
   where

@@ -23,22 +23,22 @@ module _ (store : List ℕ) (at b : ℕ) where
     taken = length-take-le at store (omega arith)
 
     -- byte six, and a byte before it
-    pub head-enters : at ≡ 5 → onByte (inHeader (take at store)) b ≡ enter (take 6 (set store at b))
-    head-enters e =
+    pub header-enters : at ≡ 5 → onByte (inHeader (take at store)) b ≡ enter (take 6 (set store at b))
+    header-enters e =
         let k : 6 ≡ at + 1 = omega arith in
         rw (eq-eqb (length (take at store)) 5 (taken ∙ e), k) (ap enter (sym (more-take h)))
 
-    pub head-goes-on : (at ≡ 5 → ⊥) → onByte (inHeader (take at store)) b ≡ (inHeader (take at store ++ (b ∷ [])), none)
-    head-goes-on n = rw (ne-eqb (length (take at store)) 5 (λ e. n (sym taken ∙ e)))
+    pub header-goes-on : (at ≡ 5 → ⊥) → onByte (inHeader (take at store)) b ≡ (inHeader (take at store ++ (b ∷ [])), none)
+    header-goes-on n = rw (ne-eqb (length (take at store)) 5 (λ e. n (sym taken ∙ e)))
 
     -- the last byte of a body of k, and a byte before it
-    pub tail-finishes : (k : ℕ) → at ≡ 7 + k → onByte (inBody k (take at store)) b ≡ (hunting, some (finish k (take (8 + k) (set store at b))))
-    tail-finishes k e =
+    pub body-finishes : (k : ℕ) → at ≡ 7 + k → onByte (inBody k (take at store)) b ≡ (hunting, some (finish k (take (8 + k) (set store at b))))
+    body-finishes k e =
         let n : 8 + k ≡ at + 1 = omega arith in
         rw (eq-eqb (length (take at store)) (7 + k) (taken ∙ e), n) (ap (λ (g : List ℕ). (hunting, some (finish k g))) (sym (more-take h)))
 
-    pub tail-goes-on : (k : ℕ) → (at ≡ 7 + k → ⊥) → onByte (inBody k (take at store)) b ≡ (inBody k (take at store ++ (b ∷ [])), none)
-    tail-goes-on k n = rw (ne-eqb (length (take at store)) (7 + k) (λ e. n (sym taken ∙ e)))
+    pub body-goes-on : (k : ℕ) → (at ≡ 7 + k → ⊥) → onByte (inBody k (take at store)) b ≡ (inBody k (take at store ++ (b ∷ [])), none)
+    body-goes-on k n = rw (ne-eqb (length (take at store)) (7 + k) (λ e. n (sym taken ∙ e)))
 
 -- a frame with a body of k, whole at the start of a store
 module _ (store : List ℕ) (k : ℕ) (room : 8 + k ≤ length store) where

@@ -29,9 +29,12 @@ gathered (inBody k g) = g
 abbrev pub held : Phase → List ℕ
 held p = gathered p
 
--- the stated length, and the check value as sent behind k bytes of body
+-- the stated length; k bytes of body, behind the header; the check value as sent behind them
 abbrev pub stated : List ℕ → ℕ
 stated g = getD g 2 0 * 256 + getD g 3 0
+
+abbrev pub bodyPart : ℕ → List ℕ → List ℕ
+bodyPart k g = take k (drop 6 g)
 
 abbrev pub sentCheck : ℕ → List ℕ → ℕ
 sentCheck k g = getD g (6 + k) 0 * 256 + getD g (7 + k) 0
@@ -53,7 +56,7 @@ enter g = cond (eqb (headerFault g) 0) (inBody (stated g) g, none) (hunting, som
 -- the last byte of a body of k: 8 where the check value differs
 abbrev pub finish : ℕ → List ℕ → Segment Message
 finish k g =
-    cond (eqb (sentCheck k g) (crc16Of (take k (drop 6 g)))) (acceptedFrame (record { address = getD g 4 0; body = take k (drop 6 g) })) (refusedFrame 8 g)
+    cond (eqb (sentCheck k g) (crc16Of (bodyPart k g))) (acceptedFrame (record { address = getD g 4 0; body = bodyPart k g })) (refusedFrame 8 g)
 
 -- hunting looks for E3, which inside a frame is a byte like any other
 abbrev pub onByte : Phase → ℕ → Phase × Option (Segment Message)

@@ -21,14 +21,15 @@ use Rattle.mdu.specs.declared.receiver.Reached.{Reached}
 
 -- the frame is over
 abbrev pub endedWith : Base.State → Event → Stepped
-endedWith base event = record { event = event; state = record { base = record { mode = 0; count = 0; «open» = 0; noise = base .noise }; length = 0 } }
+endedWith base event =
+    record { event = event; state = record { base = record { mode = 0; count = 0; «open» = 0; noise = base .noise }; length = 0 } }
 
 -- one more wire byte is held, and the frame goes on
 abbrev pub goneOn : Base.State → ℕ → ℕ → Stepped
-goneOn base count length =
+goneOn base count stated =
     record {
       event = Nothing;
-      state = record { base = record { mode = 1; count = count; «open» = (base .«open» + 1) % 2 ^ 32; noise = base .noise }; length = length };
+      state = record { base = record { mode = 1; count = count; «open» = (base .«open» + 1) % 2 ^ 32; noise = base .noise }; length = stated };
     }
 
 -- what is answered of a byte by what the rules give: the phase after it, and the segment that it closes

@@ -4,10 +4,10 @@ ghost use mathlib.Core.List.{[], _∷_};
 ghost use Rattle.mdu.specs.Frame.{lengthOk, headerSum};
 
 // Whether a body may be so long.
-pub(crate) fn length_ok(length: usize) -> bool
-    ensures { λ r. ⌜ r ≡ lengthOk length ⌝ }
+pub(crate) fn length_ok(count: usize) -> bool
+    ensures { λ r. ⌜ r ≡ lengthOk count ⌝ }
 {
-    1 <= length && length <= 1025
+    1 <= count && count <= 1025
 }
 
 // The header sum of the first five bytes.

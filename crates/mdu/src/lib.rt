@@ -52,7 +52,8 @@ pub fn fresh() -> State
 
 // Writes the frame of a message at the start of the lent memory, and answers its length.
 pub fn write(address: u8, body: &[u8], out: &mut [u8]) -> Answer
-    ensures { λ r. ⌜ (outcomeOf r, now (out .exit)) ≡ writes ok frame (record { address = address; body = now (body .entry) }) (now (out .entry)) ⌝ }
+    ensures { λ r. ⌜ (outcomeOf r, now (out .exit))
+        ≡ writes ok frame (record { address = address; body = now (body .entry) }) (now (out .entry)) ⌝ }
 {
     let n = body.len();
     if address < 1 {
@@ -98,14 +99,5 @@ pub fn receive(state: State, store: &mut [u8], piece: &[u8]) -> Received
 pub fn data(store: &[u8], message: Message) -> &[u8]
     ensures { λ r. ⌜ now r ≡ dataOf (now (store .entry)) message ⌝ }
 {
-    let length = message.length;
-    if store.len() < 6 {
-        return &store[..0];
-    }
-    if length <= store.len() - 6 {
-        let end = 6 + length;
-        &store[6..end]
-    } else {
-        &store[..0]
-    }
+    framing::data_at(store, 6, message.length)
 }

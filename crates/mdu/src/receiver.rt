@@ -38,7 +38,7 @@ pub(crate) fn is_known(state: State) -> bool
     ensures { λ r. ⌜ r ≡ knownState state ⌝ }
 {
     let base = state.base;
-    let length = state.length;
+    let stated = state.length;
     let count = base.count;
     if framing::is_known(base, 2, 1, SIZE) {
         if base.mode == 0 {
@@ -47,8 +47,8 @@ pub(crate) fn is_known(state: State) -> bool
         if count < 6 {
             return 1 <= count;
         }
-        if header::length_ok(length) {
-            count < 8 + length
+        if header::length_ok(stated) {
+            count < 8 + stated
         } else {
             false
         }
@@ -97,14 +97,14 @@ fn end(base: framing::State, event: Event) -> Stepped
 }
 
 // One more byte is gathered, and the frame goes on.
-fn go_on(base: framing::State, count: usize, length: usize) -> Stepped
-    ensures { λ r. ⌜ r ≡ goneOn base count length ⌝ }
+fn go_on(base: framing::State, count: usize, stated: usize) -> Stepped
+    ensures { λ r. ⌜ r ≡ goneOn base count stated ⌝ }
 {
     Stepped {
         event: Event::Nothing,
         state: State {
             base: framing::hold(base, 1, count),
-            length: length,
+            length: stated,
         },
     }
 }
@@ -153,10 +153,11 @@ fn enter_body(state: State, store: &[u8]) -> Stepped
 }
 
 // An open frame below six bytes: the sixth ends the header.
-fn head_byte(state: State, store: &mut [u8], byte: u8) -> Stepped
+fn header_byte(state: State, store: &mut [u8], byte: u8) -> Stepped
     requires { ⌜ Open state (now store) × (state .base .count < 6) ⌝ }
     ensures stepped { λ r. ⌜ ByRules state (onByte (inHeader (take (state .base .count) (now (store .entry)))) byte) r ⌝ }
-    ensures stored { λ r. ⌜ now (store .exit) ≡ over (front (inHeader (take (state .base .count) (now (store .entry)))) byte) (now (store .entry)) ⌝ }
+    ensures stored { λ r. ⌜ now (store .exit)
+        ≡ over (front (inHeader (take (state .base .count) (now (store .entry)))) byte) (now (store .entry)) ⌝ }
 {
     let base = state.base;
     let at = base.count;
@@ -189,7 +190,8 @@ fn finish_frame(store: &[u8], stated: usize) -> Event
 fn last_byte(state: State, store: &mut [u8], byte: u8) -> Stepped
     requires { ⌜ Open state (now store) × ToCome (state .length) (state .base .count) × (state .base .count ≡ 7 + state .length) ⌝ }
     ensures stepped { λ r. ⌜ ByRules state (onByte (inBody (state .length) (take (state .base .count) (now (store .entry)))) byte) r ⌝ }
-    ensures stored { λ r. ⌜ now (store .exit) ≡ over (front (inBody (state .length) (take (state .base .count) (now (store .entry)))) byte) (now (store .entry)) ⌝ }
+    ensures stored { λ r. ⌜ now (store .exit)
+        ≡ over (front (inBody (state .length) (take (state .base .count) (now (store .entry)))) byte) (now (store .entry)) ⌝ }
 {
     let base = state.base;
     let at = base.count;
@@ -209,7 +211,7 @@ fn step(state: State, store: &mut [u8], byte: u8) -> Stepped
         return hunt(state, store, byte);
     }
     if base.count < 6 {
-        return head_byte(state, store, byte);
+        return header_byte(state, store, byte);
     }
     last_byte(state, store, byte)
 }

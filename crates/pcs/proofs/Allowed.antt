@@ -2,15 +2,15 @@
 use Prim.Native.Nat.{ℕ, _-_, _≤_}
 use mathlib.Core.Path.{_≡_, refl}
 use mathlib.Core.Bool.{Bool, true, false, _&&_, _||_}
-use mathlib.Core.List.{List}
+use mathlib.Core.List.{List, []}
 use native.Mathlib.Omega.{arith}
 use lib.ListN.{length, getD}
 use lib.Dec.{eqb, leb}
 use borrow.Author.Tests.{leb-true, eq-eqb, eqb-true}
 use Rattle.runs.proofs.Cases.{and-both}
 use Rattle.packing.specs.Seven.{isSent}
-use Rattle.pcs.specs.Frame.{Message, plainOk, receiverOk, kindOk, ok}
-use Rattle.pcs.specs.Rules.{stated, fieldsOk}
+use Rattle.pcs.specs.Frame.{Message, plainOk, receiverOk, plainFieldsOk, kindOk, ok}
+use Rattle.pcs.specs.Rules.{stated, messageWith, fieldsOk}
 
 or-right : (a b c : Bool) → (b ≡ true → c ≡ true) → a || b ≡ true → a || c ≡ true
 or-right true b c f h = refl
@@ -32,41 +32,37 @@ kind-most k n = go (leb k 1) refl
 pub plain-most : (x : ℕ) → plainOk x ≡ true → x ≤ 250
 plain-most x h = leb-true x 250 (and-both (leb 1 x) (leb x 250) h .1)
 
--- a message that may be sent
-pub record Sendable (m : Message) : Type 0 where
+-- addresses, number and ports that are allowed
+pub record Plain (m : Message) : Type 0 where
   pub receiver : receiverOk (m .receiver) ≡ true
   pub sender : plainOk (m .sender) ≡ true
   pub number : plainOk (m .number) ≡ true
   pub sender-port : plainOk (m .sender-port) ≡ true
   pub receiver-port : plainOk (m .receiver-port) ≡ true
+
+plain : (m : Message) → plainFieldsOk m ≡ true → Plain m
+plain m h =
+    let a = and-both (receiverOk (m .receiver)) _ h in
+    let b = and-both (plainOk (m .sender)) _ (a .1) in
+    let d = and-both (plainOk (m .number)) _ (b .1) in
+    let e = and-both (plainOk (m .sender-port)) (plainOk (m .receiver-port)) (d .1) in
+    record { receiver = a .0; sender = b .0; number = d .0; sender-port = e .0; receiver-port = e .1 }
+
+-- a message that may be sent
+pub record Sendable (m : Message) : Type 0 where
+  pub plain : Plain m
   pub kind : kindOk (m .kind) (length (m .payload)) ≡ true
   pub most : length (m .payload) ≤ 1024
 
 pub sendable : (m : Message) → ok m ≡ true → Sendable m
 sendable m h =
-    let a = and-both (receiverOk (m .receiver)) _ h in
-    let b = and-both (plainOk (m .sender)) _ (a .1) in
-    let d = and-both (plainOk (m .number)) _ (b .1) in
-    let e = and-both (plainOk (m .sender-port)) _ (d .1) in
-    let f = and-both (plainOk (m .receiver-port)) _ (e .1) in
-    let g = and-both (kindOk (m .kind) (length (m .payload))) (leb (length (m .payload)) 1024) (f .1) in
-    record {
-      receiver = a .0;
-      sender = b .0;
-      number = d .0;
-      sender-port = e .0;
-      receiver-port = f .0;
-      kind = g .0;
-      most = leb-true (length (m .payload)) 1024 (g .1);
-    }
+    let p = and-both (plainFieldsOk m) _ h in
+    let k = and-both (kindOk (m .kind) (length (m .payload))) (leb (length (m .payload)) 1024) (p .1) in
+    record { plain = plain m (p .0); kind = k .0; most = leb-true (length (m .payload)) 1024 (k .1) }
 
 -- gathered bytes whose fields are allowed
 pub record Allowed (g : List ℕ) : Type 0 where
-  pub receiver : receiverOk (getD g 0 0) ≡ true
-  pub sender : plainOk (getD g 1 0) ≡ true
-  pub number : plainOk (getD g 3 0) ≡ true
-  pub sender-port : plainOk (getD g 6 0) ≡ true
-  pub receiver-port : plainOk (getD g 7 0) ≡ true
+  pub plain : Plain (messageWith g [])
   pub info : 4 ≤ getD g 2 0
   pub high : isSent (getD g 4 0) ≡ true
   pub low : isSent (getD g 5 0) ≡ true
@@ -74,22 +70,8 @@ pub record Allowed (g : List ℕ) : Type 0 where
 
 pub allowed : (g : List ℕ) → fieldsOk g ≡ true → Allowed g
 allowed g h =
-    let a = and-both (receiverOk (getD g 0 0)) _ h in
-    let b = and-both (plainOk (getD g 1 0)) _ (a .1) in
-    let d = and-both (plainOk (getD g 3 0)) _ (b .1) in
-    let e = and-both (plainOk (getD g 6 0)) _ (d .1) in
-    let f = and-both (plainOk (getD g 7 0)) _ (e .1) in
-    let i = and-both (leb 4 (getD g 2 0)) _ (f .1) in
+    let p = and-both (plainFieldsOk (messageWith g [])) _ h in
+    let i = and-both (leb 4 (getD g 2 0)) _ (p .1) in
     let j = and-both (isSent (getD g 4 0)) _ (i .1) in
     let k = and-both (isSent (getD g 5 0)) (kindOk (getD g 2 0 - 4) (stated g)) (j .1) in
-    record {
-      receiver = a .0;
-      sender = b .0;
-      number = d .0;
-      sender-port = e .0;
-      receiver-port = f .0;
-      info = leb-true 4 (getD g 2 0) (i .0);
-      high = j .0;
-      low = k .0;
-      kind = k .1;
-    }
+    record { plain = plain (messageWith g []) (p .0); info = leb-true 4 (getD g 2 0) (i .0); high = j .0; low = k .0; kind = k .1 }

@@ -18,7 +18,7 @@ use Rattle.packing.proofs.Laws.{length-unpacked}
 use Rattle.packing.proofs.Contract.{unpacked-done, unpacked-refused}
 use Rattle.pcs.specs.Frame as Frame
 use Rattle.pcs.specs.Rules.{hunting, packedPart, faultOf, messageWith, unpack, judge}
-use Rattle.pcs.specs.Contract.{frontOf, numbersOf, link}
+use Rattle.pcs.specs.Contract.{frontOf, link}
 use Rattle.pcs.specs.Steps.{toldWith}
 use Rattle.pcs.proofs.Passed.{passed}
 use Rattle.pcs.proofs.Store.{packed-at}
@@ -41,20 +41,20 @@ module _ (store : List ℕ) (count : ℕ) (room : count ≤ length store) (fine 
 
   abbrev Ends : Segment Frame.Message → Type 0
   Ends s =
-      (toldWith (numbersOf (messageWith (take count store) [])) answer ≡ told link (eventOf (some s)))
+      (toldWith (messageWith (take count store) []) answer ≡ told link (eventOf (some s)))
       × (after ≡ over (frontOf (hunting, some s)) store)
 
   unpacks : (wire : List ℕ) (o : Option (List ℕ)) → unpacked (packedPart (take count store)) ≡ o → Ends (unpack (take count store) wire o)
   unpacks wire none u =
       let w = e ∙ unpacked-refused store 8 (count - 9) (ap unpacked (sym part) ∙ u) in
-      (λ i. toldWith (numbersOf (messageWith (take count store) [])) (w i .0), λ i. w i .1)
+      (λ i. toldWith (messageWith (take count store) []) (w i .0), λ i. w i .1)
   unpacks wire (some d) u =
       let w = e ∙ unpacked-done store 8 (count - 9) d (ap unpacked (sym part) ∙ u) in
       let n : length (packedPart (take count store)) ≡ count - 9 = ap length part ∙ simp (length-take, length-drop) (omega (arith, long)) in
       let s : length d ≤ length store = omega (arith, length-unpacked (packedPart (take count store)) d u) in
-      (λ i. toldWith (numbersOf (messageWith (take count store) [])) (w i .0), (λ i. w i .1) ∙ sets-over d store s)
+      (λ i. toldWith (messageWith (take count store) []) (w i .0), (λ i. w i .1) ∙ sets-over d store s)
 
-  pub judge-told : (wire : List ℕ) → toldWith (numbersOf (messageWith (take count store) [])) answer ≡ told link (eventOf (some (judge (take count store) wire)))
+  pub judge-told : (wire : List ℕ) → toldWith (messageWith (take count store) []) answer ≡ told link (eventOf (some (judge (take count store) wire)))
   judge-told wire =
       unpacks wire (unpacked (packedPart (take count store))) refl .0
       ∙ ap (λ (s : Segment Frame.Message). told link (eventOf (some s))) (sym (judge-unpacks (take count store) wire fine))

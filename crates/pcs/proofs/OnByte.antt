@@ -100,11 +100,11 @@ module _ (g : List ℕ) (p : Passed g) (short : length g ≤ size) (d : List ℕ
   may-send =
       let e = length-packed d in
       rw (
-        f .receiver,
-        f .sender,
-        f .number,
-        f .sender-port,
-        f .receiver-port,
+        f .plain .receiver,
+        f .plain .sender,
+        f .plain .number,
+        f .plain .sender-port,
+        f .plain .receiver-port,
         kind-same (getD g 2 0 - 4) (stated g) (length d) (λ z. omega (arith, size-is)) (f .kind),
         le-leb (length d) 1024 (omega (arith, size-is, p .present)),
       )

@@ -87,21 +87,21 @@ module _ (m : Message) (y : Bytes (m .payload)) (s : Sendable m) where
 
   body-inner : AllOf Inner (body m)
   body-inner = (
-    receiver-inner (m .receiver) (s .receiver),
+    receiver-inner (m .receiver) (s .plain .receiver),
     (
-      plain-inner (m .sender) (s .sender),
+      plain-inner (m .sender) (s .plain .sender),
       (
         low-inner (4 + m .kind) (omega (arith, kind-most (m .kind) (length (m .payload)) (s .kind))),
         (
-          plain-inner (m .number) (s .number),
+          plain-inner (m .number) (s .plain .number),
           (
             sent-inner high,
             (
               sent-inner low,
               (
-                plain-inner (m .sender-port) (s .sender-port),
+                plain-inner (m .sender-port) (s .plain .sender-port),
                 (
-                  plain-inner (m .receiver-port) (s .receiver-port),
+                  plain-inner (m .receiver-port) (s .plain .receiver-port),
                   all-at Inner (packed (m .payload)) (λ i l. low-inner _ (omega (arith, packed-sent-at (m .payload) y i l .1))),
                 ),
               ),
@@ -143,11 +143,11 @@ module _ (m : Message) (y : Bytes (m .payload)) (s : Sendable m) where
   unfolding run
   fields-pass =
       rw (
-        s .receiver,
-        s .sender,
-        s .number,
-        s .sender-port,
-        s .receiver-port,
+        s .plain .receiver,
+        s .plain .sender,
+        s .plain .number,
+        s .plain .sender-port,
+        s .plain .receiver-port,
         le-leb 4 (4 + m .kind) (omega arith),
         sent-is high,
         sent-is low,

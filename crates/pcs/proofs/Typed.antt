@@ -22,11 +22,11 @@ pub typed : (m : Message) → ok m ≡ true → Bytes (m .payload) → Typed m
 typed m h y =
     let s = sendable m h in
     record {
-      receiver = receiver-small (m .receiver) (s .receiver);
-      sender = omega (arith, plain-most (m .sender) (s .sender));
+      receiver = receiver-small (m .receiver) (s .plain .receiver);
+      sender = omega (arith, plain-most (m .sender) (s .plain .sender));
       kind = omega (arith, kind-most (m .kind) (length (m .payload)) (s .kind));
-      number = omega (arith, plain-most (m .number) (s .number));
-      sender-port = omega (arith, plain-most (m .sender-port) (s .sender-port));
-      receiver-port = omega (arith, plain-most (m .receiver-port) (s .receiver-port));
+      number = omega (arith, plain-most (m .number) (s .plain .number));
+      sender-port = omega (arith, plain-most (m .sender-port) (s .plain .sender-port));
+      receiver-port = omega (arith, plain-most (m .receiver-port) (s .plain .receiver-port));
       payload = y;
     }

@@ -9,7 +9,7 @@ use Rattle.framing.specs.Segment.{Segment, noise, refusedFrame, acceptedFrame}
 use Rattle.framing.specs.State.{freshState, knownState, stateAfter}
 use Rattle.framing.specs.Link.{Link, Lent, Told, nothing, accepted, refused, dataAt}
 use Rattle.framing.specs.declared.State.{State}
-use Rattle.pcs.specs.Frame.{Typed, ok, frame}
+use Rattle.pcs.specs.Frame.{Typed, withFields, ok, frame}
 use Rattle.pcs.specs.Frame as Frame
 use Rattle.pcs.specs.Rules.{Phase, hunting, inside, size, gathered, held, onByte}
 use Rattle.pcs.specs.declared.Message.{Message}
@@ -33,9 +33,9 @@ frontOf (p, some (noise bs)) = gathered p
 frontOf (p, some (refusedFrame n bs)) = gathered p
 frontOf (p, some (acceptedFrame m)) = m .payload
 
--- the numbers told of a message
-abbrev pub numbersOf : Frame.Message → Message
-numbersOf m =
+-- the numbers told of a message, with so much data
+abbrev pub numbersWith : Frame.Message → ℕ → Message
+numbersWith m n =
     record {
       receiver = m .receiver;
       sender = m .sender;
@@ -43,8 +43,15 @@ numbersOf m =
       number = m .number;
       «sender_port» = m .sender-port;
       «receiver_port» = m .receiver-port;
-      length = length (m .payload);
+      length = n;
     }
+
+abbrev pub numbersOf : Frame.Message → Message
+numbersOf m = numbersWith m (length (m .payload))
+
+-- and back: the message of such numbers, with its data
+abbrev pub withData : Message → List ℕ → Frame.Message
+withData m d = withFields (m .receiver) (m .sender) (m .kind) (m .number) (m .«sender_port») (m .«receiver_port») d
 
 -- the data of a message: the part of the store from place 0
 abbrev pub dataOf : List ℕ → Message → List ℕ
@@ -52,16 +59,7 @@ dataOf store m = dataAt 0 (m .length) store
 
 -- the message that a caller has of its numbers and the store
 abbrev pub messageOf : List ℕ → Message → Frame.Message
-messageOf store m =
-    record {
-      receiver = m .receiver;
-      sender = m .sender;
-      kind = m .kind;
-      number = m .number;
-      sender-port = m .«sender_port»;
-      receiver-port = m .«receiver_port»;
-      payload = dataOf store m;
-    }
+messageOf store m = withData m (dataOf store m)
 
 -- the link: two modes, of which the first hunts
 abbrev pub link : Link

@@ -28,6 +28,11 @@ pub record Typed (m : Message) : Type 0 where
   pub receiver-port : m .receiver-port < 256
   pub payload : Bytes (m .payload)
 
+-- the message with these fields, in the order of a writer's call, and its data
+abbrev pub withFields : ℕ → ℕ → ℕ → ℕ → ℕ → ℕ → List ℕ → Message
+withFields receiver sender kind number from to d =
+    record { receiver = receiver; sender = sender; kind = kind; number = number; sender-port = from; receiver-port = to; payload = d }
+
 -- an address, a number or a port: 1 to 250; a receiver may also be 255, everybody
 abbrev pub plainOk : ℕ → Bool
 plainOk b = leb 1 b && leb b 250
@@ -35,16 +40,18 @@ plainOk b = leb 1 b && leb b 250
 abbrev pub receiverOk : ℕ → Bool
 receiverOk b = plainOk b || eqb b 255
 
+-- addresses, number and ports
+abbrev pub plainFieldsOk : Message → Bool
+plainFieldsOk m =
+    receiverOk (m .receiver) && (plainOk (m .sender) && (plainOk (m .number) && (plainOk (m .sender-port) && plainOk (m .receiver-port))))
+
 -- kind 0 is plain, 1 asks for an acknowledgement; 2 and 3 are the positive and the negative one, without data
 abbrev pub kindOk : ℕ → ℕ → Bool
-kindOk kind length = leb kind 1 || (leb kind 3 && eqb length 0)
+kindOk kind n = leb kind 1 || (leb kind 3 && eqb n 0)
 
 -- a message that may be sent
 abbrev pub ok : Message → Bool
-ok m =
-    receiverOk (m .receiver)
-    && (plainOk (m .sender)
-    && (plainOk (m .number) && (plainOk (m .sender-port) && (plainOk (m .receiver-port) && (kindOk (m .kind) (length (m .payload)) && leb (length (m .payload)) 1024)))))
+ok m = plainFieldsOk m && (kindOk (m .kind) (length (m .payload)) && leb (length (m .payload)) 1024)
 
 -- receiver, sender, info, number, length high and low in seven bits each, both ports; info is 4 plus the kind, the length that of the packed data
 abbrev pub header : Message → ℕ → List ℕ

@@ -10,7 +10,7 @@ use Rattle.framing.specs.Tests.{firstOf}
 use Rattle.packing.specs.Seven.{isSent, valueOf}
 use Rattle.packing.specs.Unpacked.{unpacked}
 use Rattle.checksum.specs.Sum.{sumOf}
-use Rattle.pcs.specs.Frame.{Message, plainOk, receiverOk, kindOk}
+use Rattle.pcs.specs.Frame.{Message, withFields, plainFieldsOk, kindOk}
 
 -- the store's size: a header of 8, at most 1,171 packed bytes and the sum
 abbrev pub size : ℕ
@@ -45,15 +45,15 @@ asksCrc g = leb 12 (getD g 2 0) && leb (getD g 2 0) 15
 abbrev pub sumRight : List ℕ → Bool
 sumRight g = eqb (getD g (length g - 1) 0) (sumOf (take (length g - 1) g))
 
+-- the message of gathered bytes, with its data
+abbrev pub messageWith : List ℕ → List ℕ → Message
+messageWith g d = withFields (getD g 0 0) (getD g 1 0) (getD g 2 0 - 4) (getD g 3 0) (getD g 6 0) (getD g 7 0) d
+
 -- addresses, number, ports, info (4 to 7), length bytes, and no stated length with kinds 2 and 3
 abbrev pub fieldsOk : List ℕ → Bool
 fieldsOk g =
-    receiverOk (getD g 0 0)
-    && (plainOk (getD g 1 0)
-    && (plainOk (getD g 3 0)
-    && (plainOk (getD g 6 0)
-    && (plainOk (getD g 7 0)
-    && (leb 4 (getD g 2 0) && (isSent (getD g 4 0) && (isSent (getD g 5 0) && kindOk (getD g 2 0 - 4) (stated g))))))))
+    plainFieldsOk (messageWith g [])
+    && (leb 4 (getD g 2 0) && (isSent (getD g 4 0) && (isSent (getD g 5 0) && kindOk (getD g 2 0 - 4) (stated g))))
 
 -- as many packed bytes are there as stated
 abbrev pub lengthRight : List ℕ → Bool
@@ -69,19 +69,6 @@ faultOf g =
     ∷ (not (fieldsOk g), 9)
     ∷ (not (lengthRight g), 10)
     ∷ [])
-
--- the message of gathered bytes, with its data
-abbrev pub messageWith : List ℕ → List ℕ → Message
-messageWith g d =
-    record {
-      receiver = getD g 0 0;
-      sender = getD g 1 0;
-      kind = getD g 2 0 - 4;
-      number = getD g 3 0;
-      sender-port = getD g 6 0;
-      receiver-port = getD g 7 0;
-      payload = d;
-    }
 
 -- the last test: 13 where the data is badly packed
 abbrev pub unpack : List ℕ → List ℕ → Option (List ℕ) → Segment Message

@@ -1,7 +1,6 @@
 -- What the private functions answer: the steps of a call.
 use Prim.Native.Nat.{ℕ, _≤_}
 use mathlib.Core.Path.{_≡_}
-use mathlib.Core.Bool.{Bool, _&&_}
 use mathlib.Core.List.{List}
 use mathlib.Core.Option.{Option}
 use lib.ListN.{length}
@@ -12,45 +11,16 @@ use Rattle.framing.specs.Link.{Lent, Told, accepted, told}
 use Rattle.framing.specs.Link as Link
 use Rattle.framing.specs.Passing.{Leads}
 use Rattle.framing.specs.declared.State.{State}
-use Rattle.pcs.specs.Frame.{plainOk, receiverOk}
 use Rattle.pcs.specs.Frame as Frame
 use Rattle.pcs.specs.Rules.{Phase, size, gathered, held}
-use Rattle.pcs.specs.Contract.{modeOf, link, toldOf}
+use Rattle.pcs.specs.Contract.{modeOf, numbersWith, link, toldOf}
 use Rattle.pcs.specs.declared.Message.{Message}
 use Rattle.pcs.specs.declared.Stepped.{Stepped}
 use Rattle.framing.specs.declared.Reached.{Reached}
 
--- the message of a struct's numbers with its data
-abbrev pub withData : Message → List ℕ → Frame.Message
-withData m d =
-    record {
-      receiver = m .receiver;
-      sender = m .sender;
-      kind = m .kind;
-      number = m .number;
-      sender-port = m .«sender_port»;
-      receiver-port = m .«receiver_port»;
-      payload = d;
-    }
-
--- the addresses, the number and the ports are allowed
-abbrev pub plainFieldsOk : Message → Bool
-plainFieldsOk m =
-    receiverOk (m .receiver) && (plainOk (m .sender) && (plainOk (m .number) && (plainOk (m .«sender_port») && plainOk (m .«receiver_port»))))
-
--- what is told of numbers once the data are unpacked, or badly packed
-abbrev pub toldWith : Message → Outcome ℕ → Told Message
-toldWith m (done n) =
-    accepted
-    (record {
-      receiver = m .receiver;
-      sender = m .sender;
-      kind = m .kind;
-      number = m .number;
-      «sender_port» = m .«sender_port»;
-      «receiver_port» = m .«receiver_port»;
-      length = n;
-    })
+-- what is told of a message once its data are unpacked, or badly packed
+abbrev pub toldWith : Frame.Message → Outcome ℕ → Told Message
+toldWith m (done n) = accepted (numbersWith m n)
 toldWith m (refused n) = Link.refused n
 
 -- what is answered of a byte by what the rules give: the phase after it, and the segment that it closes

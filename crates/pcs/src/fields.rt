@@ -1,12 +1,13 @@
 // The fields of a PCS frame.
 use super::Message;
 ghost use mathlib.Core.Path.{_≡_};
+ghost use mathlib.Core.List.{[]};
 ghost use mathlib.Core.Bool.{_&&_};
 ghost use Prim.Native.Nat.{_+_, _-_, _*_};
 ghost use lib.Dec.{leb};
 ghost use Rattle.packing.specs.Seven.{valueOf};
-ghost use Rattle.pcs.specs.Frame.{plainOk, receiverOk, kindOk};
-ghost use Rattle.pcs.specs.Steps.{plainFieldsOk};
+ghost use Rattle.pcs.specs.Frame.{plainOk, receiverOk, plainFieldsOk, kindOk};
+ghost use Rattle.pcs.specs.Contract.{withData};
 
 // The first byte of a frame.
 pub const START: u8 = 253;
@@ -29,15 +30,15 @@ pub fn receiver_ok(b: u8) -> bool
 }
 
 // Whether a kind is known, and may go with so many data bytes or packed bytes.
-pub fn kind_ok(kind: u8, length: usize) -> bool
-    ensures { λ r. ⌜ r ≡ kindOk kind length ⌝ }
+pub fn kind_ok(kind: u8, count: usize) -> bool
+    ensures { λ r. ⌜ r ≡ kindOk kind count ⌝ }
 {
-    kind <= 1 || (kind <= 3 && length == 0)
+    kind <= 1 || (kind <= 3 && count == 0)
 }
 
 // Whether the addresses, the number and the ports are allowed.
 pub fn plain_fields_ok(message: Message) -> bool
-    ensures { λ r. ⌜ r ≡ plainFieldsOk message ⌝ }
+    ensures { λ r. ⌜ r ≡ plainFieldsOk (withData message []) ⌝ }
 {
     receiver_ok(message.receiver)
         && plain_ok(message.sender)

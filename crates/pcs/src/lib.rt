@@ -17,9 +17,9 @@ ghost use Rattle.framing.specs.Writer.{writes};
 ghost use Rattle.framing.specs.Receiver.{feed};
 ghost use Rattle.framing.specs.Segment.{eventOf};
 ghost use Rattle.framing.specs.Link.{isEvent, told, stepOn, reported, receives};
-ghost use Rattle.pcs.specs.Frame.{ok, frame};
+ghost use Rattle.pcs.specs.Frame.{withFields, ok, frame};
 ghost use Rattle.pcs.specs.Rules.{hunting, inside, size, fieldsOk, faultOf, messageWith, judge, gather, onByte};
-ghost use Rattle.pcs.specs.Contract.{phaseOf, frontOf, numbersOf, dataOf, link, toldOf, receivedOf};
+ghost use Rattle.pcs.specs.Contract.{phaseOf, frontOf, numbersOf, withData, dataOf, link, toldOf, receivedOf};
 ghost use Rattle.pcs.specs.Steps.{toldWith, ByRules, Open, Passes};
 
 // The least store of a receiver: a header of 8 bytes, at most 1,171 packed bytes, the sum.
@@ -67,7 +67,8 @@ pub fn write(
     data: &[u8],
     out: &mut [u8],
 ) -> Answer
-    ensures { λ r. ⌜ (outcomeOf r, now (out .exit)) ≡ writes ok frame (record { receiver = receiver; sender = sender; kind = kind; number = number; sender-port = «sender_port»; receiver-port = «receiver_port»; payload = now («data» .entry) }) (now (out .entry)) ⌝ }
+    ensures { λ r. ⌜ (outcomeOf r, now (out .exit))
+        ≡ writes ok frame (withFields receiver sender kind number «sender_port» «receiver_port» (now («data» .entry))) (now (out .entry)) ⌝ }
 {
     let message = Message {
         receiver: receiver,
@@ -103,7 +104,8 @@ fn hunt(state: State, byte: u8) -> Stepped
 fn gather_byte(state: State, store: &mut [u8], byte: u8) -> Stepped
     requires { ⌜ Open state (now store) ⌝ }
     ensures stepped { λ r. ⌜ ((wire : List ℕ) → ByRules state (gather (take (state .count) (now (store .entry))) byte wire) r) ⌝ }
-    ensures stored { λ r. ⌜ ((wire : List ℕ) → now (store .exit) ≡ over (frontOf (gather (take (state .count) (now (store .entry))) byte wire)) (now (store .entry))) ⌝ }
+    ensures stored { λ r. ⌜ ((wire : List ℕ) → now (store .exit)
+        ≡ over (frontOf (gather (take (state .count) (now (store .entry))) byte wire)) (now (store .entry))) ⌝ }
 {
     let at = state.count;
     if at < SIZE {
@@ -121,7 +123,7 @@ fn gather_byte(state: State, store: &mut [u8], byte: u8) -> Stepped
 }
 
 // The numbers of a frame's gathered bytes; the length of its data is not known yet.
-fn head_of(gathered: &[u8]) -> Message
+fn numbers_of(gathered: &[u8]) -> Message
     requires { ⌜ 9 ≤ length (now gathered) ⌝ }
     ensures { λ r. ⌜ r ≡ numbersOf (messageWith (now (gathered .entry)) []) ⌝ }
 {
@@ -141,14 +143,14 @@ fn fields_ok(gathered: &[u8]) -> bool
     requires { ⌜ 9 ≤ length (now gathered) ⌝ }
     ensures { λ r. ⌜ r ≡ fieldsOk (now (gathered .entry)) ⌝ }
 {
-    let head = head_of(gathered);
+    let numbers = numbers_of(gathered);
     let high = gathered[4];
     let low = gathered[5];
-    fields::plain_fields_ok(head)
+    fields::plain_fields_ok(numbers)
         && 4 <= gathered[2]
         && packing::is_sent(high)
         && packing::is_sent(low)
-        && fields::kind_ok(head.kind, fields::stated_by(high, low))
+        && fields::kind_ok(numbers.kind, fields::stated_by(high, low))
 }
 
 // The number of the first test before unpacking that a frame's gathered bytes fail, 0 where they pass all.
@@ -176,20 +178,16 @@ fn fault_of(gathered: &[u8]) -> u8
 }
 
 // What is told of a frame once its data are unpacked, or badly packed.
-fn told_of(head: Message, unpacked: Answer) -> Event
-    ensures { λ r. ⌜ toldOf r ≡ toldWith head (outcomeOf unpacked) ⌝ }
+fn told_of(numbers: Message, unpacked: Answer) -> Event
+    ensures { λ r. ⌜ toldOf r ≡ toldWith (withData numbers []) (outcomeOf unpacked) ⌝ }
 {
     match unpacked {
-        Answer::Done(length) => Event::Accepted(Message {
-            receiver: head.receiver,
-            sender: head.sender,
-            kind: head.kind,
-            number: head.number,
-            sender_port: head.sender_port,
-            receiver_port: head.receiver_port,
-            length: length,
-        }),
-        Answer::Refused(number) => Event::Refused(number),
+        Answer::Done(count) => {
+            let mut message = numbers;
+            message.length = count;
+            Event::Accepted(message)
+        }
+        Answer::Refused(refused) => Event::Refused(refused),
     }
 }
 
@@ -197,22 +195,24 @@ fn told_of(head: Message, unpacked: Answer) -> Event
 fn judge_frame(store: &mut [u8], count: usize) -> Event
     requires { ⌜ count ≤ length (now store) ⌝ }
     ensures told { λ r. ⌜ ((wire : List ℕ) → toldOf r ≡ told link (eventOf (some (judge (take count (now (store .entry))) wire)))) ⌝ }
-    ensures stored { λ r. ⌜ ((wire : List ℕ) → now (store .exit) ≡ over (frontOf (hunting, some (judge (take count (now (store .entry))) wire))) (now (store .entry))) ⌝ }
+    ensures stored { λ r. ⌜ ((wire : List ℕ) → now (store .exit)
+        ≡ over (frontOf (hunting, some (judge (take count (now (store .entry))) wire))) (now (store .entry))) ⌝ }
 {
     let fault = fault_of(&store[..count]);
     if fault != 0 {
         return Event::Refused(fault);
     }
-    let head = head_of(&store[..count]);
+    let numbers = numbers_of(&store[..count]);
     let unpacked = packing::unpack_in_place(store, 8, count - 9);
-    told_of(head, unpacked)
+    told_of(numbers, unpacked)
 }
 
 // An open frame: the start mark opens the next one, the end mark ends it, any other byte is gathered.
 fn inside_byte(state: State, store: &mut [u8], byte: u8) -> Stepped
     requires { ⌜ Open state (now store) ⌝ }
     ensures stepped { λ r. ⌜ ByRules state (onByte (inside (take (state .count) (now (store .entry)))) byte) r ⌝ }
-    ensures stored { λ r. ⌜ now (store .exit) ≡ over (frontOf (onByte (inside (take (state .count) (now (store .entry)))) byte)) (now (store .entry)) ⌝ }
+    ensures stored { λ r. ⌜ now (store .exit)
+        ≡ over (frontOf (onByte (inside (take (state .count) (now (store .entry)))) byte)) (now (store .entry)) ⌝ }
 {
     if byte == fields::START {
         return Stepped {
@@ -352,10 +352,5 @@ pub fn receive(state: State, store: &mut [u8], piece: &[u8]) -> Received
 pub fn data(store: &[u8], message: Message) -> &[u8]
     ensures { λ r. ⌜ now r ≡ dataOf (now (store .entry)) message ⌝ }
 {
-    let length = message.length;
-    if length <= store.len() {
-        &store[0..length]
-    } else {
-        &store[0..0]
-    }
+    framing::data_at(store, 0, message.length)
 }

@@ -13,7 +13,7 @@ ghost use Rattle.framing.specs.Writer.{writes};
 ghost use Rattle.packing.specs.Packed.{packedLength};
 ghost use Rattle.checksum.specs.Sum.{sumOf};
 ghost use Rattle.pcs.specs.Frame.{ok, header, frame};
-ghost use Rattle.pcs.specs.Steps.{withData};
+ghost use Rattle.pcs.specs.Contract.{withData};
 
 // Whether a message may be sent.
 fn may_send(message: Message, data: &[u8]) -> bool
@@ -53,7 +53,8 @@ fn put_end(out: &mut [u8], at: usize)
 
 // Stores a frame at the start, with so many packed bytes.
 fn put_frame(message: Message, data: &[u8], packed: usize, out: &mut [u8])
-    requires { ⌜ (message .kind ≤ 3) × (length (now «data») ≤ 1024) × (packed ≡ packedLength (length (now «data»))) × (11 + packed ≤ length (now out)) ⌝ }
+    requires { ⌜ (message .kind ≤ 3) × (length (now «data») ≤ 1024)
+        × (packed ≡ packedLength (length (now «data»))) × (11 + packed ≤ length (now out)) ⌝ }
     ensures { λ r. ⌜ now (out .exit) ≡ sets (now (out .entry)) 0 (frame (withData message (now («data» .entry)))) ⌝ }
 {
     put_header(message, packed, out);

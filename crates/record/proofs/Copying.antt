@@ -38,9 +38,9 @@ module _ {A : Type 0} (F : Signedness A) (r : List ℕ) (out : List A) where
     unfolding copying
     copy-short e l = rw (f .good, same-is true e, lt-leb (countOf r) (length out) (omega (arith, f .count-is)))
 
-    pub copy-done : (after : List A) → same (F .signed) (g .signed) ≡ true → n ≤ length out → after ≡ sets out 0 (faresIn F r (g .size) n)
+    pub copy-done : (after : List A) → same (F .signed) (g .signed) ≡ true → n ≤ length out → after ≡ sets out 0 (faresIn F (g .size) n r)
         → (done n, after) ≡ copying F r out
     unfolding copying
     copy-done after e l q =
         rw (f .good, same-is true e, le-leb (countOf r) (length out) (omega (arith, f .count-is)), ← size-is f, ← f .count-is)
-        (ap (λ (x : List A). (done n, x)) (q ∙ sets-over (faresIn F r (g .size) n) out (rw length-fares l)))
+        (ap (λ (x : List A). (done n, x)) (q ∙ sets-over (faresIn F (g .size) n r) out (rw length-fares l)))

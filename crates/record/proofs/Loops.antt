@@ -22,7 +22,7 @@ within size {i} l = rw (← mul-suc) (mul-le-mul-left size l)
 -- the fares of a record's elements, one by one
 module _ {A : Type 0} (F : Signedness A) (r : List ℕ) (size count : ℕ) where
   abbrev fares : List A
-  fares = faresIn F r size count
+  fares = faresIn F size count r
 
   pub length-fares : length fares ≡ count
   length-fares = simp (length-map, length-numbers)

@@ -39,13 +39,13 @@ same true b = b
 same false b = not b
 
 module _ {A : Type 0} (F : Signedness A) where
-  -- the fares of count elements of a size, which stand behind the header
-  abbrev pub faresIn : List ℕ → ℕ → ℕ → List A
-  faresIn r size count = map (F .fareOf size) (numbers size count (drop 5 r))
+  -- the fares of so many elements of a size, behind the header
+  abbrev pub faresIn : ℕ → ℕ → List ℕ → List A
+  faresIn size count r = map (F .fareOf size) (numbers size count (drop 5 r))
 
   -- the fares of a well-formed record
   abbrev pub faresOf : List ℕ → List A
-  faresOf r = faresIn r (sizeOf (kindOf r)) (countOf r)
+  faresOf r = faresIn (sizeOf (kindOf r)) (countOf r) r
 
   -- the fare at an index
   abbrev pub fareAt : List ℕ → ℕ → A

@@ -30,7 +30,7 @@ pub(crate) fn to_signed(n: u32, size: usize) -> i32
 // Stores count fares of size bytes each, which stand behind the header, from the start of out on.
 fn fill_unsigned(bytes: &[u8], size: usize, count: usize, out: &mut [u32])
     requires { ⌜ Fill (now bytes) size count (length (now out)) ⌝ }
-    ensures { λ _. ⌜ now (out .exit) ≡ sets (now (out .entry)) 0 (faresIn unsignedFares (now (bytes .entry)) size count) ⌝ }
+    ensures { λ _. ⌜ now (out .exit) ≡ sets (now (out .entry)) 0 (faresIn unsignedFares size count (now (bytes .entry))) ⌝ }
 {
     let mut i = 0;
     while i < count {
@@ -42,7 +42,7 @@ fn fill_unsigned(bytes: &[u8], size: usize, count: usize, out: &mut [u32])
 
 fn fill_signed(bytes: &[u8], size: usize, count: usize, out: &mut [i32])
     requires { ⌜ Fill (now bytes) size count (length (now out)) × IsSignedSize size ⌝ }
-    ensures { λ _. ⌜ now (out .exit) ≡ sets (now (out .entry)) 0 (faresIn signedFares (now (bytes .entry)) size count) ⌝ }
+    ensures { λ _. ⌜ now (out .exit) ≡ sets (now (out .entry)) 0 (faresIn signedFares size count (now (bytes .entry))) ⌝ }
 {
     let mut i = 0;
     while i < count {

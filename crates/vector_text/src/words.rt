@@ -3,6 +3,7 @@ use crate::memory;
 use crate::memory::Content;
 ghost use mathlib.Core.Path.{_≡_};
 ghost use mathlib.Core.Bool.{true};
+ghost use mathlib.Core.Logic.{_↔_};
 ghost use Prim.Native.Nat.{_≤_, _%_, _^_, min};
 ghost use lib.ListN.{length, take, drop};
 ghost use Rattle.vector_text.specs.Counted.{PutAtStart};
@@ -36,14 +37,15 @@ fn word(line: &[u8], k: usize) -> &[u8]
 
 // Whether word k is this name.
 pub fn is(line: &[u8], k: usize, name: &[u8]) -> bool
-    ensures { λ r. ⌜ (r ≡ true → wordOf k (now (line .entry)) ≡ now (name .entry)) × (wordOf k (now (line .entry)) ≡ now (name .entry) → r ≡ true) ⌝ }
+    ensures { λ r. ⌜ (r ≡ true) ↔ (wordOf k (now (line .entry)) ≡ now (name .entry)) ⌝ }
 {
     check::same(word(line, k), name)
 }
 
 // A line without the words `example N` at its front.
 pub fn call(line: &[u8]) -> &[u8]
-    ensures { λ r. ⌜ (wordOf 0 (now (line .entry)) ≡ example → now r ≡ wordsFrom 2 (now (line .entry))) × ((wordOf 0 (now (line .entry)) ≡ example → ⊥) → now r ≡ now (line .entry)) ⌝ }
+    ensures { λ r. ⌜ (wordOf 0 (now (line .entry)) ≡ example → now r ≡ wordsFrom 2 (now (line .entry)))
+        × ((wordOf 0 (now (line .entry)) ≡ example → ⊥) → now r ≡ now (line .entry)) ⌝ }
 {
     if is(line, 0, b"example") {
         let from = start(line, 2);
@@ -159,7 +161,8 @@ fn lay(content: Content, count: usize, out: &mut [u8]) -> usize
 
 // Puts the bytes of a word at the start of out and answers how many. The last frame is `frame`.
 pub fn bytes(line: &[u8], k: usize, frame: &[u8], out: &mut [u8]) -> usize
-    ensures { λ r. ⌜ PutAtStart (givenBy (wordOf k (now (line .entry))) (now (frame .entry)) (length (now (out .entry)))) (now (out .entry)) (now (out .exit)) r ⌝ }
+    ensures { λ r. ⌜ PutAtStart (givenBy (wordOf k (now (line .entry))) (now (frame .entry)) (length (now (out .entry))))
+        (now (out .entry)) (now (out .exit)) r ⌝ }
 {
     let it = word(line, k);
     match first_of(it) {

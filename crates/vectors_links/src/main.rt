@@ -9,20 +9,20 @@ use kept::Kept;
 use vector_text::print;
 
 // One line, without its end.
-fn answer_line(line: &[u8], kept: Kept, frame: &mut [u8], store: &mut [u8]) -> Kept {
+fn run_line(line: &[u8], kept: Kept, frame: &mut [u8], store: &mut [u8]) -> Kept {
     print::text(line);
-    let written = writers::answer(line, kept, frame);
-    let received = receivers::answer(line, written, frame, store);
+    let written = writers::run(line, kept, frame);
+    let received = receivers::run(line, written, frame, store);
     print::text(b"\n");
     received
 }
 
-fn answer_lines(text: &[u8], frame: &mut [u8], store: &mut [u8]) {
+fn run_lines(text: &[u8], frame: &mut [u8], store: &mut [u8]) {
     let mut kept = kept::fresh();
     let mut at = 0;
     while at < text.len() {
         let end = bytes::scan::find(text, at, text.len(), b'\n');
-        kept = answer_line(&text[at..end], kept, frame, store);
+        kept = run_line(&text[at..end], kept, frame, store);
         if end == text.len() {
             return;
         }
@@ -35,5 +35,5 @@ fn main() {
     let mut frame = io::buffer();
     let mut store = io::buffer();
     let length = io::read_full(libc::STDIN_FILENO, &mut text);
-    answer_lines(&text[..length], &mut frame, &mut store);
+    run_lines(&text[..length], &mut frame, &mut store);
 }

@@ -56,7 +56,7 @@ fn part(line: &[u8], link: u8, store: &[u8]) -> usize {
     }
 }
 
-pub(crate) fn answer(line: &[u8], link: u8) {
+pub(crate) fn run(line: &[u8], link: u8) {
     let store = io::buffer();
     let room = memory::within(words::size(line, 1), &store);
     print::named(b"gives", part(line, link, &store[..room]) as u64);

@@ -156,7 +156,7 @@ fn show_receive(link: u8, state: mdu::State, store: &mut [u8], piece: &[u8]) -> 
     after
 }
 
-fn answer_receive(line: &[u8], kept: Kept, frame: &[u8], store: &mut [u8]) -> Kept {
+fn run_receive(line: &[u8], kept: Kept, frame: &[u8], store: &mut [u8]) -> Kept {
     let mut space = io::buffer();
     let last = memory::within(kept.frame, frame);
     let n = words::bytes(line, 1, &frame[..last], &mut space);
@@ -168,7 +168,7 @@ fn answer_receive(line: &[u8], kept: Kept, frame: &[u8], store: &mut [u8]) -> Ke
 }
 
 // A fresh state, and a store of so many bytes.
-fn answer_fresh(line: &[u8], kept: Kept, store: &mut [u8]) -> Kept {
+fn run_fresh(line: &[u8], kept: Kept, store: &mut [u8]) -> Kept {
     memory::fill(Content::Lent, store);
     let state = mdu::fresh();
     let mut after = kept;
@@ -231,12 +231,12 @@ fn stated(line: &[u8], link: u8) -> mdu::State {
     }
 }
 
-pub(crate) fn answer(line: &[u8], kept: Kept, frame: &[u8], store: &mut [u8]) -> Kept {
+pub(crate) fn run(line: &[u8], kept: Kept, frame: &[u8], store: &mut [u8]) -> Kept {
     if words::is(line, 0, b"receive") {
-        return answer_receive(line, kept, frame, store);
+        return run_receive(line, kept, frame, store);
     }
     if words::is(line, 0, b"fresh") {
-        return answer_fresh(line, kept, store);
+        return run_fresh(line, kept, store);
     }
     if words::is(line, 0, b"store") {
         return answer_store(line, kept, frame, store);
@@ -245,7 +245,7 @@ pub(crate) fn answer(line: &[u8], kept: Kept, frame: &[u8], store: &mut [u8]) ->
         show_content(kept.room, store);
     }
     if words::is(line, 0, b"part") {
-        parts::answer(line, kept.link);
+        parts::run(line, kept.link);
     }
     let mut after = kept;
     if words::is(line, 0, b"state") {

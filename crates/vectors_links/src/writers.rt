@@ -88,7 +88,7 @@ fn written(line: &[u8], kept: Kept, data: &[u8], out: &mut [u8], frame: &mut [u8
     keep(answer, out, frame, kept.frame)
 }
 
-fn answer_write(line: &[u8], kept: Kept, frame: &mut [u8]) -> Kept {
+fn run_write(line: &[u8], kept: Kept, frame: &mut [u8]) -> Kept {
     let mut space = io::buffer();
     let mut memory = io::buffer();
     let k = data_at(line, kept.link);
@@ -99,12 +99,12 @@ fn answer_write(line: &[u8], kept: Kept, frame: &mut [u8]) -> Kept {
     after
 }
 
-pub(crate) fn answer(line: &[u8], kept: Kept, frame: &mut [u8]) -> Kept {
+pub(crate) fn run(line: &[u8], kept: Kept, frame: &mut [u8]) -> Kept {
     if words::is(line, 0, b"write") {
-        return answer_write(line, kept, frame);
+        return run_write(line, kept, frame);
     }
     if words::is(line, 0, b"write-error") {
-        return answer_write(line, kept, frame);
+        return run_write(line, kept, frame);
     }
     let mut after = kept;
     if words::is(line, 0, b"section") {

@@ -53,7 +53,7 @@ fn dle_frame(sequence: u8, node: u8, bytes: &[u8]) {
     show_done(answer, &memory);
 }
 
-fn answer_bytes(line: &[u8], bytes: &[u8]) {
+fn run_on_bytes(line: &[u8], bytes: &[u8]) {
     if words::is(line, 0, b"crc16") {
         crc16(bytes);
     }
@@ -71,13 +71,13 @@ fn answer_bytes(line: &[u8], bytes: &[u8]) {
     }
 }
 
-pub(crate) fn answer(line: &[u8]) {
+pub(crate) fn run(line: &[u8]) {
     let mut bytes = io::buffer();
     if words::is(line, 0, b"dle-frame") {
         let n = words::bytes(line, 3, b"", &mut bytes);
         dle_frame(words::byte(line, 1), words::byte(line, 2), &bytes[..n]);
     } else {
         let n = words::bytes(line, 1, b"", &mut bytes);
-        answer_bytes(line, &bytes[..n]);
+        run_on_bytes(line, &bytes[..n]);
     }
 }

@@ -22,7 +22,7 @@ fn show_read(link: u8, frame: &[u8], store: &mut [u8]) {
     print::mix(b"store", store);
 }
 
-fn answer_read(line: &[u8]) {
+fn run_whole(line: &[u8]) {
     let mut frame = io::buffer();
     let mut store = io::buffer();
     let n = words::bytes(line, 2, b"", &mut frame);
@@ -30,8 +30,8 @@ fn answer_read(line: &[u8]) {
     show_read(words::first(line, 1), &frame[..n], &mut store[..room]);
 }
 
-pub(crate) fn answer(line: &[u8]) {
+pub(crate) fn run(line: &[u8]) {
     if words::is(line, 0, b"whole") {
-        answer_read(line);
+        run_whole(line);
     }
 }

@@ -15,41 +15,20 @@ awaited : (c : tie.Else3) → let a = c .before .before .before .before .before 
     asks (exchangeOf (a .state)) (arrival (a .id) (a .kind) (a .now)) ≡ replied (exchangeOf (a .state)) (a .kind) (a .now)
 awaited c = simp (known-is (c .before .before .before .before), eq-eqb _ _ (c .before .before .if2 .left), eq-eqb _ _ (c .if3 .left))
 
-is-known-requires : tie.Need-is-known-requires
-is-known-requires c κs = search needs
-
-unchanged-requires : tie.Need-unchanged-requires
-unchanged-requires c κs = search needs
-
 returns : tie.Need-returns
 returns c = rw (sym (c .before .before .is-known .ensures) ∙ not-true _ (c .before .if1 .taken)) (c .unchanged .ensures)
-
-unchanged-requires-2 : tie.Need-unchanged-requires-2
-unchanged-requires-2 c κs = search needs
 
 returns-2 : tie.Need-returns-2
 returns-2 c = simp (known-is (c .before .before .before), ne-eqb _ _ (c .before .if2 .taken)) (c .unchanged2 .ensures)
 
-unchanged-requires-3 : tie.Need-unchanged-requires-3
-unchanged-requires-3 c κs = search needs
-
 returns-3 : tie.Need-returns-3
 returns-3 c = simp (known-is (c .before .before .before .before .before), eq-eqb _ _ (c .before .before .before .if2 .left), ne-eqb _ _ (c .before .if3 .taken)) (c .unchanged3 .ensures)
-
-end-requires : tie.Need-end-requires
-end-requires c κs = search needs
 
 returns-4 : tie.Need-returns-4
 returns-4 c = rw (awaited (c .before .before), eq-eqb _ _ (c .before .if4 .taken)) (c .end .ensures)
 
-send-again-requires : tie.Need-send-again-requires
-send-again-requires c κs = search needs
-
 returns-5 : tie.Need-returns-5
 returns-5 c = rw (awaited (c .before .before .before), ne-eqb _ _ (c .before .before .if4 .left), eq-eqb _ _ (c .before .if5 .taken)) (c .send-again .ensures)
-
-unchanged-requires-4 : tie.Need-unchanged-requires-4
-unchanged-requires-4 c κs = search needs
 
 returns-6 : tie.Need-returns-6
 returns-6 c = rw (awaited (c .before .before .before), ne-eqb _ _ (c .before .before .if4 .left), ne-eqb _ _ (c .before .if5 .left)) (c .unchanged4 .ensures)
@@ -57,17 +36,5 @@ returns-6 c = rw (awaited (c .before .before .before), ne-eqb _ _ (c .before .be
 pub arrived-spec : {M : Type 1} → statement M
 arrived-spec =
     tie.close
-    (tie.spec
-    is-known-requires
-    unchanged-requires
-    returns
-    unchanged-requires-2
-    returns-2
-    unchanged-requires-3
-    returns-3
-    end-requires
-    returns-4
-    send-again-requires
-    returns-5
-    unchanged-requires-4
-    returns-6)
+    (tie.spec (λ c κs. search needs) (λ c κs. search needs) returns (λ c κs. search needs) returns-2 (λ c κs. search needs) returns-3
+    (λ c κs. search needs) returns-4 (λ c κs. search needs) returns-5 (λ c κs. search needs) returns-6)

@@ -4,17 +4,8 @@ use borrow.Author.Needs.{needs}
 use Rattle.gate.proofs.respond_to_message.Statement.{statement}
 use Rattle.gate.proofs.respond_to_message.Tie as tie
 
-say-nothing-requires : tie.Need-say-nothing-requires
-say-nothing-requires c κs = search needs
-
 returns : tie.Need-returns
 returns c = simp (ne-eqb _ _ (c .before .if1 .taken)) (c .say-nothing .ensures)
-
-reply-to-requires : tie.Need-reply-to-requires
-reply-to-requires c κs = search needs
-
-is-repeated-requires : tie.Need-is-repeated-requires
-is-repeated-requires c κs = search needs
 
 returns-2 : tie.Need-returns-2
 returns-2 c = simp (eq-eqb _ _ (c .before .before .before .if1 .left), sym (c .before .is-repeated .ensures) ∙ c .if2 .taken, c .before .before .reply-to .ensures)
@@ -24,11 +15,4 @@ returns-3 c = simp (eq-eqb _ _ (c .before .before .before .if1 .left), sym (c .b
 
 pub respond-to-message-spec : {M : Type 1} → statement M
 respond-to-message-spec =
-    tie.close
-    (tie.spec
-    say-nothing-requires
-    returns
-    reply-to-requires
-    is-repeated-requires
-    returns-2
-    returns-3)
+    tie.close (tie.spec (λ c κs. search needs) returns (λ c κs. search needs) (λ c κs. search needs) returns-2 returns-3)

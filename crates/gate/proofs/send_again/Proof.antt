@@ -3,20 +3,11 @@ use borrow.Author.Needs.{needs}
 use Rattle.gate.proofs.send_again.Statement.{statement}
 use Rattle.gate.proofs.send_again.Tie as tie
 
-add-send : tie.Need-add-send
-add-send c = search needs
-
-send-requires : tie.Need-send-requires
-send-requires c κs = search needs
-
 returns : tie.Need-returns
 returns c = simp (lt-ltb (c .before .before .before .before .args .state .repeat) 3 (c .before .before .if1 .taken)) (c .send .ensures)
-
-end-requires : tie.Need-end-requires
-end-requires c κs = search needs
 
 returns-2 : tie.Need-returns-2
 returns-2 c = simp (le-ltb (c .before .before .before .args .state .repeat) 3 (c .before .if1 .left)) (c .end .ensures)
 
 pub send-again-spec : {M : Type 1} → statement M
-send-again-spec = tie.close (tie.spec add-send send-requires returns end-requires returns-2)
+send-again-spec = tie.close (tie.spec (λ c. search needs) (λ c κs. search needs) returns (λ c κs. search needs) returns-2)

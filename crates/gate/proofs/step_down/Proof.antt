@@ -6,17 +6,11 @@ use Rattle.gate.proofs.step_down.Tie as tie
 returns : tie.Need-returns
 returns c = simp (eq-eqb _ _ (c .if1 .taken))
 
-sub-if2 : tie.Need-sub-if2
-sub-if2 c = search needs
-
 returns-2 : tie.Need-returns-2
 returns-2 c = simp (ne-eqb _ _ (c .before .if1 .left), eq-eqb _ _ (c .if2 .taken))
-
-sub-t3 : tie.Need-sub-t3
-sub-t3 c = search needs
 
 returns-3 : tie.Need-returns-3
 returns-3 c = simp (ne-eqb _ _ (c .before .if1 .left), ne-eqb _ _ (c .if2 .left))
 
 pub step-down-spec : {M : Type 1} → statement M
-step-down-spec = tie.close (tie.spec returns sub-if2 returns-2 sub-t3 returns-3)
+step-down-spec = tie.close (tie.spec returns (λ c. search needs) returns-2 (λ c. search needs) returns-3)

@@ -6,11 +6,8 @@ use Rattle.gate.proofs.step_up.Tie as tie
 returns : tie.Need-returns
 returns c = simp (eq-eqb (c .before .args .address) 255 (c .if1 .taken))
 
-add-t3 : tie.Need-add-t3
-add-t3 c = search needs
-
 returns-2 : tie.Need-returns-2
 returns-2 c = simp (ne-eqb _ _ (c .if1 .left))
 
 pub step-up-spec : {M : Type 1} → statement M
-step-up-spec = tie.close (tie.spec returns add-t3 returns-2)
+step-up-spec = tie.close (tie.spec returns (λ c. search needs) returns-2)

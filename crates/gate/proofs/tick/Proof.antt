@@ -15,32 +15,14 @@ waiting : (c : tie.Else2) → let a = c .before .before .before .before .args in
     asks (exchangeOf (a .state)) (tick (a .now)) ≡ cond (waitOver (a .now) (a .state .sent)) (again (exchangeOf (a .state)) (a .now)) (nothing, exchangeOf (a .state))
 waiting c = simp (known-is (c .before .before), eq-eqb _ _ (c .if2 .left))
 
-is-known-requires : tie.Need-is-known-requires
-is-known-requires c κs = search needs
-
-unchanged-requires : tie.Need-unchanged-requires
-unchanged-requires c κs = search needs
-
 returns : tie.Need-returns
 returns c = rw (sym (c .before .before .is-known .ensures) ∙ not-true _ (c .before .if1 .taken)) (c .unchanged .ensures)
-
-unchanged-requires-2 : tie.Need-unchanged-requires-2
-unchanged-requires-2 c κs = search needs
 
 returns-2 : tie.Need-returns-2
 returns-2 c = simp (known-is (c .before .before .before), ne-eqb _ _ (c .before .if2 .taken)) (c .unchanged2 .ensures)
 
-is-over-requires : tie.Need-is-over-requires
-is-over-requires c κs = search needs
-
-unchanged-requires-3 : tie.Need-unchanged-requires-3
-unchanged-requires-3 c κs = search needs
-
 returns-3 : tie.Need-returns-3
 returns-3 c = rw (waiting (c .before .before .before), sym (c .before .before .is-over .ensures) ∙ not-true _ (c .before .if3 .taken)) (c .unchanged3 .ensures)
-
-send-again-requires : tie.Need-send-again-requires
-send-again-requires c κs = search needs
 
 returns-4 : tie.Need-returns-4
 returns-4 c = rw (waiting (c .before .before .before), sym (c .before .before .is-over .ensures) ∙ not-false _ (c .before .if3 .left)) (c .send-again .ensures)
@@ -48,14 +30,5 @@ returns-4 c = rw (waiting (c .before .before .before), sym (c .before .before .i
 pub tick-spec : {M : Type 1} → statement M
 tick-spec =
     tie.close
-    (tie.spec
-    is-known-requires
-    unchanged-requires
-    returns
-    unchanged-requires-2
-    returns-2
-    is-over-requires
-    unchanged-requires-3
-    returns-3
-    send-again-requires
-    returns-4)
+    (tie.spec (λ c κs. search needs) (λ c κs. search needs) returns (λ c κs. search needs) returns-2 (λ c κs. search needs) (λ c κs. search needs)
+    returns-3 (λ c κs. search needs) returns-4)

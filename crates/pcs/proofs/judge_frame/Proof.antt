@@ -1,4 +1,5 @@
 use mathlib.Core.Path.{_≡_, sym, ap, _∙_}
+use mathlib.Core.List.{[]}
 use native.Mathlib.Omega.{arith}
 use lib.ListN.{take}
 use lib.Seq.{length-take-le}
@@ -6,6 +7,7 @@ use borrow.Author.Needs.{needs}
 use Rattle.framing.specs.Answer.{outcomeOf}
 use Rattle.framing.specs.Link.{refused}
 use Rattle.pcs.specs.Rules.{faultOf}
+use Rattle.pcs.specs.Contract.{withData}
 use Rattle.pcs.specs.Steps.{toldWith}
 use Rattle.pcs.specs.declared.Message.{Message}
 use Rattle.pcs.proofs.Passed.{passed}
@@ -35,17 +37,17 @@ returns c =
     let n : faultOf g ≡ 0 → ⊥ = λ e. c .if1 .taken (f ∙ e) in
     (λ wire. rw (judge-fault g wire n) (ap refused f), λ wire. rw (judge-fault g wire n))
 
-slice-reshare-prefix-head-of : tie.Need-slice-reshare-prefix-head-of
-slice-reshare-prefix-head-of c = search needs
+slice-reshare-prefix-numbers-of : tie.Need-slice-reshare-prefix-numbers-of
+slice-reshare-prefix-numbers-of c = search needs
 
-slice-aggregate-head-of : tie.Need-slice-aggregate-head-of
-slice-aggregate-head-of c =
+slice-aggregate-numbers-of : tie.Need-slice-aggregate-numbers-of
+slice-aggregate-numbers-of c =
     let a = c .before .before .before .before .before .args in
     sym (length-take-le (a .count) (a .store .now) (omega arith))
 
 -- `fault_of` found no fault, so nine bytes at least are gathered
-head-of-requires : tie.Need-head-of-requires
-head-of-requires c κs =
+numbers-of-requires : tie.Need-numbers-of-requires
+numbers-of-requires c κs =
     let a = c .before .before .before .before .before .args in
     passed (take (a .count) (a .store .now)) (sym (c .before .before .fault-of .ensures) ∙ c .before .if1 .left) .long
 
@@ -63,14 +65,14 @@ told-of-requires c κs = search needs
 same-length-2 : tie.Need-same-length-2
 same-length-2 c = search needs
 
--- without a fault, the event is made of the numbers that `head_of` promises, read before, and of what `unpack_in_place` answers and leaves
+-- without a fault, the event is made of the numbers that `numbers_of` promises, read before, and of what `unpack_in_place` answers and leaves
 returns-2 : tie.Need-returns-2
 returns-2 c =
     let s = c .before .before .before .before .before .before .before .before .before .before .before in
     let u = c .before .before .before .unpack-in-place in
     let f = sym (c .before .before .before .before .before .before .before .before .fault-of .ensures) ∙ c .before .before .before .before .before .before .before .if1 .left in
-    let h = c .before .before .before .before .before .head-of .ensures in (
-      λ wire. c .told-of .ensures ∙ ap (λ (m : Message). toldWith m (outcomeOf (u .result))) h
+    let h = c .before .before .before .before .before .numbers-of .ensures in (
+      λ wire. c .told-of .ensures ∙ ap (λ (m : Message). toldWith (withData m []) (outcomeOf (u .result))) h
           ∙ judge-told (s .args .store .now) (s .args .count) (s .pre) f (outcomeOf (u .result)) (u .last .0) (u .ensures) wire,
       λ wire. judge-stored (s .args .store .now) (s .args .count) (s .pre) f (outcomeOf (u .result)) (u .last .0) (u .ensures) wire,
     )
@@ -84,9 +86,9 @@ judge-frame-spec =
     fault-of-requires
     same-length
     returns
-    slice-reshare-prefix-head-of
-    slice-aggregate-head-of
-    head-of-requires
+    slice-reshare-prefix-numbers-of
+    slice-aggregate-numbers-of
+    numbers-of-requires
     sub-unpack-in-place
     unpack-in-place-requires
     told-of-requires

@@ -1,5 +1,5 @@
 use borrow.Author.Needs.{needs}
-use Rattle.mdu.proofs.Known.{known-mode, known-tail}
+use Rattle.mdu.proofs.Known.{known-mode, known-body}
 use Rattle.mdu.proofs.receiver.advance.Statement.{statement}
 use Rattle.mdu.proofs.receiver.advance.Tie as tie
 
@@ -17,7 +17,7 @@ pass-body-requires c κs =
     let s = c .before .before .before .before .before .before .before .before in
     let h = s .pre .0 in
     let o = c .before .before .before .if1 .left in
-    (record { mode = known-mode (s .args .state) h o; room = s .pre .1 }, known-tail (s .args .state) h o (c .before .if2 .left), s .pre .2)
+    (record { mode = known-mode (s .args .state) h o; room = s .pre .1 }, known-body (s .args .state) h o (c .before .if2 .left), s .pre .2)
 
 same-length : tie.Need-same-length
 same-length c = search needs

@@ -2,7 +2,7 @@ use native.Mathlib.Omega.{arith}
 use Prim.Native.Nat.{_+_}
 use lib.ListN.{take, set}
 use Rattle.runs.proofs.Run.{more-over}
-use Rattle.mdu.proofs.Store.{tail-finishes}
+use Rattle.mdu.proofs.Store.{body-finishes}
 use Rattle.mdu.proofs.Steps.{by-rules-finish}
 use borrow.Author.Needs.{needs}
 use Rattle.mdu.proofs.receiver.last_byte.Statement.{statement}
@@ -27,7 +27,7 @@ returns c =
     let n = a .state .base .count in
     let k = a .state .length in (
       by-rules-finish (a .state) _ (c .end .result) k (take (8 + k) (set (a .store .now) n (a .byte))) _
-          (tail-finishes (a .store .now) n (a .byte) (omega arith) k (s .pre .2)) (c .before .finish-frame .ensures) (c .end .ensures),
+          (body-finishes (a .store .now) n (a .byte) (omega arith) k (s .pre .2)) (c .before .finish-frame .ensures) (c .end .ensures),
       more-over (a .store .now) n (a .byte) (omega arith),
     )
 

@@ -1,5 +1,5 @@
 use borrow.Author.Tests.{eq-eqb, ne-eqb, lt-ltb, le-ltb}
-use Rattle.mdu.proofs.Known.{known-mode, known-tail}
+use Rattle.mdu.proofs.Known.{known-mode, known-body}
 use borrow.Author.Needs.{needs}
 use Rattle.mdu.proofs.receiver.step.Statement.{statement}
 use Rattle.mdu.proofs.receiver.step.Tie as tie
@@ -16,8 +16,8 @@ returns c =
     let g = c .before .before .hunt .ensures in
     (simp e (g .0), simp e (g .1))
 
-head-byte-requires : tie.Need-head-byte-requires
-head-byte-requires c κs =
+header-byte-requires : tie.Need-header-byte-requires
+header-byte-requires c κs =
     let s = c .before .before .before .before .before .before .before in
     let o = c .before .before .before .if1 .left in
     (record { mode = known-mode (s .args .state) (s .pre .0) o; room = s .pre .1 }, c .before .if2 .taken)
@@ -29,7 +29,7 @@ returns-2 : tie.Need-returns-2
 returns-2 c =
     let n = ne-eqb _ _ (c .before .before .before .before .before .before .if1 .left) in
     let l = lt-ltb _ _ (c .before .before .before .before .if2 .taken) in
-    let g = c .before .before .head-byte .ensures in
+    let g = c .before .before .header-byte .ensures in
     (simp (n, l) (g .0), simp (n, l) (g .1))
 
 -- a known state with six bytes or more that does not hunt has bytes to come, and the caller promises that it is the last one alone
@@ -38,7 +38,7 @@ last-byte-requires c κs =
     let s = c .before .before .before .before .before .before .before in
     let o = c .before .before .before .if1 .left in
     let l = c .before .if2 .left in
-    (record { mode = known-mode (s .args .state) (s .pre .0) o; room = s .pre .1 }, known-tail (s .args .state) (s .pre .0) o l, s .pre .2 l)
+    (record { mode = known-mode (s .args .state) (s .pre .0) o; room = s .pre .1 }, known-body (s .args .state) (s .pre .0) o l, s .pre .2 l)
 
 same-length-3 : tie.Need-same-length-3
 same-length-3 c = search needs
@@ -57,7 +57,7 @@ step-spec =
     hunt-requires
     same-length
     returns
-    head-byte-requires
+    header-byte-requires
     same-length-2
     returns-2
     last-byte-requires

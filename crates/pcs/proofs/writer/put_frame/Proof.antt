@@ -10,7 +10,7 @@ use Rattle.packing.specs.Packed.{packed}
 use Rattle.packing.proofs.Lengths.{length-packed}
 use Rattle.checksum.specs.Sum.{sumOf}
 use Rattle.pcs.specs.Frame.{header}
-use Rattle.pcs.specs.Steps.{withData}
+use Rattle.pcs.specs.Contract.{withData}
 use Rattle.pcs.proofs.Written.{parts-written}
 use Rattle.pcs.proofs.writer.put_frame.Statement.{statement}
 use Rattle.pcs.proofs.writer.put_frame.Tie as tie

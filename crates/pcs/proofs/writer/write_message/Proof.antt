@@ -5,7 +5,7 @@ use lib.ListN.{length}
 use borrow.Author.Needs.{needs}
 use Rattle.framing.proofs.Stored.{stored-so, stored-refused}
 use Rattle.pcs.specs.Frame.{frame}
-use Rattle.pcs.specs.Steps.{withData}
+use Rattle.pcs.specs.Contract.{withData}
 use Rattle.pcs.proofs.Allowed.{kind-most, sendable}
 use Rattle.pcs.proofs.Written.{frame-length}
 use Rattle.pcs.proofs.writer.write_message.Statement.{statement}

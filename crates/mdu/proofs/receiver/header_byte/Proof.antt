@@ -2,11 +2,11 @@ use native.Mathlib.Omega.{arith}
 use mathlib.Core.Path.{refl, sym, subst}
 use Rattle.mdu.specs.Steps.{ByRules}
 use Rattle.runs.proofs.Run.{more-count, more-over}
-use Rattle.mdu.proofs.Store.{head-enters, head-goes-on}
+use Rattle.mdu.proofs.Store.{header-enters, header-goes-on}
 use Rattle.mdu.proofs.Steps.{by-rules-more}
 use borrow.Author.Needs.{needs}
-use Rattle.mdu.proofs.receiver.head_byte.Statement.{statement}
-use Rattle.mdu.proofs.receiver.head_byte.Tie as tie
+use Rattle.mdu.proofs.receiver.header_byte.Statement.{statement}
+use Rattle.mdu.proofs.receiver.header_byte.Tie as tie
 
 slice-write-store : tie.Need-slice-write-store
 slice-write-store c = search needs
@@ -27,7 +27,7 @@ returns : tie.Need-returns
 returns c =
     let a = c .before .before .before .before .before .args in
     let n = a .state .base .count in (
-      subst (λ x. ByRules (a .state) x (c .enter-body .result)) (sym (head-enters (a .store .now) n (a .byte) (omega arith) (c .before .before .if1 .taken)))
+      subst (λ x. ByRules (a .state) x (c .enter-body .result)) (sym (header-enters (a .store .now) n (a .byte) (omega arith) (c .before .before .if1 .taken)))
           (c .enter-body .ensures),
       more-over (a .store .now) n (a .byte) (omega arith),
     )
@@ -40,13 +40,13 @@ returns-2 c =
     let a = c .before .before .before .before .args in
     let n = a .state .base .count in
     let g = more-count (a .store .now) n (a .byte) (omega arith) in (
-      by-rules-more (a .state) _ (c .go-on .result) _ (head-goes-on (a .store .now) n (a .byte) (omega arith) (c .before .if1 .left)) (c .before .before .before .before .pre .0 .mode) refl
+      by-rules-more (a .state) _ (c .go-on .result) _ (header-goes-on (a .store .now) n (a .byte) (omega arith) (c .before .if1 .left)) (c .before .before .before .before .pre .0 .mode) refl
           (rw g (c .go-on .ensures)),
       more-over (a .store .now) n (a .byte) (omega arith),
     )
 
-pub head-byte-spec : {M : Type 1} → statement M
-head-byte-spec =
+pub header-byte-spec : {M : Type 1} → statement M
+header-byte-spec =
     tie.close
     (tie.spec
     slice-write-store

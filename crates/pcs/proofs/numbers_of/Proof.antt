@@ -1,6 +1,6 @@
 use borrow.Author.Needs.{needs}
-use Rattle.pcs.proofs.head_of.Statement.{statement}
-use Rattle.pcs.proofs.head_of.Tie as tie
+use Rattle.pcs.proofs.numbers_of.Statement.{statement}
+use Rattle.pcs.proofs.numbers_of.Tie as tie
 
 shared-slice-read-t3 : tie.Need-shared-slice-read-t3
 shared-slice-read-t3 c = search needs
@@ -26,8 +26,8 @@ shared-slice-read-t14 c = search needs
 returns : tie.Need-returns
 returns c = rw (c .before .before .before .kind-of .ensures)
 
-pub head-of-spec : {M : Type 1} → statement M
-head-of-spec =
+pub numbers-of-spec : {M : Type 1} → statement M
+numbers-of-spec =
     tie.close
     (tie.spec
     shared-slice-read-t3

@@ -1,11 +1,8 @@
-use borrow.Author.Tests.{le-leb, lt-leb}
 use native.Mathlib.Omega.{arith}
-use Prim.Native.Nat.{ℕ, _+_, _-_, _≤_, _<_}
-use mathlib.Core.Path.{_≡_, ap}
-use lib.ListN.{length, take, drop}
+use Rattle.framing.proofs.Data.{data-inside, data-outside}
 use borrow.Author.Needs.{needs}
-use Rattle.mdu.proofs.data.Statement.{statement}
-use Rattle.mdu.proofs.data.Tie as tie
+use Rattle.framing.proofs.data_at.Statement.{statement}
+use Rattle.framing.proofs.data_at.Tie as tie
 
 slice-aggregate-result : tie.Need-slice-aggregate-result
 slice-aggregate-result c = search needs
@@ -13,8 +10,7 @@ slice-aggregate-result c = search needs
 returns : tie.Need-returns
 returns c =
     let a = c .before .before .args in
-    let h : length (a .store .now) < 6 + a .message .length = omega arith in
-    simp (lt-leb (6 + a .message .length) (length (a .store .now)) h)
+    data-outside (a .place) (a .count) (a .store .now) (omega arith)
 
 sub-if2 : tie.Need-sub-if2
 sub-if2 c = search needs
@@ -37,18 +33,15 @@ slice-aggregate-result-2 c = search needs
 returns-2 : tie.Need-returns-2
 returns-2 c =
     let a = c .before .before .before .args in
-    let h : 6 + a .message .length ≤ length (a .store .now) = omega arith in
-    let n : 6 + a .message .length - 6 ≡ a .message .length = omega arith in
-    simp (le-leb (6 + a .message .length) (length (a .store .now)) h) (ap (λ (k : ℕ). take k (drop 6 (a .store .now))) n)
+    data-inside (a .place) (a .count) (a .store .now) (omega arith)
 
 returns-3 : tie.Need-returns-3
 returns-3 c =
     let a = c .before .before .before .args in
-    let h : length (a .store .now) < 6 + a .message .length = omega arith in
-    simp (lt-leb (6 + a .message .length) (length (a .store .now)) h)
+    data-outside (a .place) (a .count) (a .store .now) (omega arith)
 
-pub data-spec : {M : Type 1} → statement M
-data-spec =
+pub data-at-spec : {M : Type 1} → statement M
+data-at-spec =
     tie.close
     (tie.spec
     slice-aggregate-result
