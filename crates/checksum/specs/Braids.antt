@@ -1,4 +1,4 @@
--- A braid: registers side by side. Of n registers each takes every n-th word of a run, so that none waits for another.
+-- For private contracts only. A braid: registers side by side. Of n registers each takes every n-th word of a run, so that none waits for another.
 use Prim.Native.Nat.{ℕ, _*_}
 use mathlib.Core.Path.{_≡_}
 use mathlib.Core.List.{List, [], _∷_}

@@ -1,4 +1,4 @@
--- The rule of the tables by which some bits, and so a word of 32, leave a register at once; and the register along a run.
+-- For private contracts only: the rule of the tables by which some bits, and so a word of 32, leave a register at once; and the register along a run.
 use Prim.Native.Nat.{ℕ, _+_, _*_, _-_, _/_, _^_, _≤_, _<_}
 use mathlib.Core.Path.{_≡_}
 use mathlib.Core.List.{List}

@@ -15,7 +15,7 @@ use Rattle.dle.specs.declared.Event.{Event}
 use Rattle.dle.specs.declared.Event.the-variants.{Nothing, Accepted, Refused}
 use Rattle.dle.specs.declared.Received.{Received}
 
--- the number of each phase: 0 hunting, 1 hunting after a 10, 2 open, 3 open after a 10
+-- the number of each phase: 0 and, behind a 10, 1 hunting; 2 and, behind a 10, 3 open
 abbrev pub modeOf : Phase → ℕ
 modeOf hunting = 0
 modeOf half = 1
