@@ -171,7 +171,8 @@ struct Braid {
 fn after_blocks(table: &[u32; 1024], start: u32, bytes: &[u8]) -> Braid
     requires { ⌜ 24 ≤ length (now bytes) ⌝ }
     ensures within { λ r. ⌜ r .next + 24 ≤ length (now (bytes .entry)) ⌝ }
-    ensures braided { λ r. ⌜ ((p : ℕ) → BraidTable p (now (table .entry)) → Braided p start (now (bytes .entry)) (r .next) (registersOf r)) ⌝ }
+    ensures braided { λ r. ⌜ ((p : ℕ) → BraidTable p (now (table .entry))
+        → Braided p start (now (bytes .entry)) (r .next) (registersOf r)) ⌝ }
 {
     let mut a = start;
     let mut b: u32 = 0;
@@ -203,7 +204,8 @@ fn after_blocks(table: &[u32; 1024], start: u32, bytes: &[u8]) -> Braid
 // The register after a block, from registers side by side: each word in turn, with its register.
 fn join(table: &[u32; 128], braid: Braid, block: &[u8]) -> u32
     requires { ⌜ 24 ≤ length (now block) ⌝ }
-    ensures { λ r. ⌜ ((p c : ℕ) → NibbleTable p (now (table .entry)) → StandsFor p (registersOf braid) c → AfterBytes p c (now (block .entry)) 24 r) ⌝ }
+    ensures { λ r. ⌜ ((p c : ℕ) → NibbleTable p (now (table .entry)) → StandsFor p (registersOf braid) c
+        → AfterBytes p c (now (block .entry)) 24 r) ⌝ }
 {
     let c1 = shift32(table, braid.a ^ word(block, 0));
     let c2 = shift32(table, c1 ^ (braid.b ^ word(block, 4)));
