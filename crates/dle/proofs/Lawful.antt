@@ -7,7 +7,6 @@ use native.Mathlib.Omega.{arith}
 use lib.ListN.{length, take}
 use borrow.Author.Tests.{le-leb}
 use Rattle.runs.proofs.Cases.{by-eqb}
-use Rattle.framing.specs.State.{knownState}
 use Rattle.framing.specs.declared.State.{State}
 use Rattle.framing.proofs.States.{stateOf, shared-next, shared-leaves}
 use Rattle.framing.proofs.Lawful.{Lawful}
@@ -21,7 +20,7 @@ use Rattle.dle.proofs.Readback.{reads-frame}
 abbrev stateIn : Phase → ℕ → State
 stateIn p n = stateOf modeOf gathered held p n
 
-known-of : (p : Phase) (n : ℕ) → length (gathered p) ≤ size → knownState 4 2 size (stateIn p n) ≡ true
+known-of : (p : Phase) (n : ℕ) → length (gathered p) ≤ size → link .known (stateIn p n) ≡ true
 known-of hunting n h = refl
 known-of half n h = refl
 known-of (inside true g) n h = le-leb (length g) size h

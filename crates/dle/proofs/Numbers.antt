@@ -1,7 +1,7 @@
 -- Which numbers a DLE stream gives: no byte gives another, and short streams give each.
 use Prim.Native.Nat.{ℕ, _<_}
 use mathlib.Core.Path.{_≡_, refl}
-use mathlib.Core.Bool.{false, not}
+use mathlib.Core.Bool.{false}
 use mathlib.Core.List.{List, [], _∷_, _++_}
 use mathlib.Core.Option.{Option, none, some}
 use native.Mathlib.Omega.{arith}
@@ -19,7 +19,7 @@ use Rattle.framing.proofs.Refusals.{either, Listed, none-listed, Closes, shown,
 use Rattle.escape.specs.Code.{Meaning, byte, waits, start, end, wrong, meaning}
 use Rattle.escape.specs.Dle.{dle}
 use Rattle.dle.specs.Frame.{Message}
-use Rattle.dle.specs.Rules.{Phase, hunting, half, inside, size, held, lengthRight, faultOf, act, onByte}
+use Rattle.dle.specs.Rules.{Phase, hunting, half, inside, size, held, tests, faultOf, act, onByte}
 use Rattle.dle.specs.Contract.{link}
 use Rattle.dle.specs.Claims.{streamNumbers}
 
@@ -33,7 +33,7 @@ Cut r = Closes streamNumbers (r .1)
 fault-listed : (g : List ℕ) → Listed streamNumbers (faultOf g)
 unfolding faultOf
 fault-listed g =
-    of-first (Listed streamNumbers) ((ltb (length g) 4, 6) ∷ (not (lengthRight g), 10) ∷ []) (none-listed streamNumbers)
+    of-first (Listed streamNumbers) (tests g) (none-listed streamNumbers)
     (record { listed = λ _. refl }, (record { listed = λ _. refl }, tt))
 
 act-only : (g wire : List ℕ) (m : Meaning) → Cut (act g wire m)

@@ -41,12 +41,15 @@ abbrev pub lengthRight : List ℕ → Bool
 lengthRight g = eqb (bytesBehind (getD g 2 0)) (length g - 3)
 
 -- the tests at the end of a frame, in their order
-unfoldable pub faultOf : List ℕ → ℕ
-faultOf g =
-    firstOf
-    ((ltb (length g) 4, 6)
+abbrev pub tests : List ℕ → List (Bool × ℕ)
+tests g =
+    (ltb (length g) 4, 6)
     ∷ (not (lengthRight g), 10)
-    ∷ [])
+    ∷ []
+
+-- the number of the first that fires
+unfoldable pub faultOf : List ℕ → ℕ
+faultOf g = firstOf (tests g)
 
 -- the message of gathered bytes
 abbrev pub messageIn : List ℕ → Message

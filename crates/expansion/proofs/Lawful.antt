@@ -10,7 +10,6 @@ use borrow.Author.Tests.{le-leb}
 use Rattle.runs.specs.Runs.{Bytes}
 use Rattle.runs.proofs.Bytes.{bytes-append, bytes-one}
 use Rattle.runs.proofs.Cases.{by-eqb}
-use Rattle.framing.specs.State.{knownState}
 use Rattle.framing.specs.declared.State.{State}
 use Rattle.framing.proofs.States.{stateOf, shared-next, shared-leaves}
 use Rattle.framing.proofs.Lawful.{Lawful}
@@ -25,7 +24,7 @@ use Rattle.expansion.proofs.OnByte.{Good, reached, takes}
 use Rattle.expansion.proofs.Readback.{reads-frame}
 
 -- the state of a phase is known, and stands for the phase
-known-of : (p : Phase) (n : ℕ) → Good p → knownState 3 1 size (stateOf modeOf gathered held p n) ≡ true
+known-of : (p : Phase) (n : ℕ) → Good p → link .known (stateOf modeOf gathered held p n) ≡ true
 known-of hunting n h = refl
 known-of (inside true g) n h = le-leb (length g) size (h .1)
 known-of (inside false g) n h = le-leb (length g) size (h .1)

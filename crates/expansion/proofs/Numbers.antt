@@ -1,7 +1,7 @@
 -- Which numbers an expansion stream gives: no byte gives another, and short streams give each.
 use Prim.Native.Nat.{ℕ, _<_}
 use mathlib.Core.Path.{_≡_, refl}
-use mathlib.Core.Bool.{false, not}
+use mathlib.Core.Bool.{false}
 use mathlib.Core.List.{List, [], _∷_, _++_}
 use mathlib.Core.Option.{Option, none, some}
 use native.Mathlib.Omega.{arith}
@@ -21,7 +21,7 @@ use Rattle.checksum.specs.Crc.{shifts, byteStep, run}
 use Rattle.escape.specs.Code.{Meaning, byte, waits, start, end, wrong, meaning}
 use Rattle.escape.specs.Expansion.{expansion}
 use Rattle.expansion.specs.Frame.{Message}
-use Rattle.expansion.specs.Rules.{Phase, hunting, inside, size, held, checkRight, fieldsOk, faultOf, act, onByte}
+use Rattle.expansion.specs.Rules.{Phase, hunting, inside, size, held, tests, faultOf, act, onByte}
 use Rattle.expansion.specs.Contract.{link}
 use Rattle.expansion.specs.Claims.{streamNumbers}
 
@@ -35,7 +35,7 @@ Cut r = Closes streamNumbers (r .1)
 fault-listed : (g : List ℕ) → Listed streamNumbers (faultOf g)
 unfolding faultOf
 fault-listed g =
-    of-first (Listed streamNumbers) ((ltb (length g) 8, 6) ∷ (not (checkRight g), 8) ∷ (not (fieldsOk g), 9) ∷ []) (none-listed streamNumbers)
+    of-first (Listed streamNumbers) (tests g) (none-listed streamNumbers)
     (record { listed = λ _. refl }, (record { listed = λ _. refl }, (record { listed = λ _. refl }, tt)))
 
 act-only : (g before wire : List ℕ) (m : Meaning) → Cut (act g before wire m)

@@ -1,15 +1,14 @@
 -- What the tests at the end of a frame say together.
 use Prim.Native.Nat.{ℕ, _≤_}
 use mathlib.Core.Path.{_≡_, refl}
-use mathlib.Core.Bool.{true, not}
-use mathlib.Core.List.{List, [], _∷_}
-use lib.Dec.{ltb}
+use mathlib.Core.Bool.{true}
+use mathlib.Core.List.{List}
 use lib.ListN.{length}
 use borrow.Author.Tests.{ltb-false, le-ltb, not-false}
 use native.Mathlib.Omega.{arith}
 use Rattle.runs.proofs.Cases.{by-ltb}
 use Rattle.framing.proofs.Tests.{none-fires}
-use Rattle.expansion.specs.Rules.{checkRight, fieldsOk, faultOf}
+use Rattle.expansion.specs.Rules.{checkRight, fieldsOk, tests, faultOf}
 
 -- gathered bytes of which no test fires
 pub record Passed (g : List ℕ) : Type 0 where
@@ -21,7 +20,7 @@ module _ (g : List ℕ) where
   pub passed : faultOf g ≡ 0 → Passed g
   unfolding faultOf
   passed h =
-      let t = none-fires ((ltb (length g) 8, 6) ∷ (not (checkRight g), 8) ∷ (not (fieldsOk g), 9) ∷ []) refl h in
+      let t = none-fires (tests g) refl h in
       record { long = ltb-false (length g) 8 (t .0); checked = not-false _ (t .1 .0); fields = not-false _ (t .1 .1 .0) }
 
   pub no-fault : Passed g → faultOf g ≡ 0

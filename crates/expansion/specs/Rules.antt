@@ -40,13 +40,16 @@ abbrev pub fieldsOk : List ℕ → Bool
 fieldsOk g = kindOk (getD g 1 0) (length g - 8) && leb (getD g 2 0) 3
 
 -- the tests at the end of a frame, in their order
-unfoldable pub faultOf : List ℕ → ℕ
-faultOf g =
-    firstOf
-    ((ltb (length g) 8, 6)
+abbrev pub tests : List ℕ → List (Bool × ℕ)
+tests g =
+    (ltb (length g) 8, 6)
     ∷ (not (checkRight g), 8)
     ∷ (not (fieldsOk g), 9)
-    ∷ [])
+    ∷ []
+
+-- the number of the first that fires
+unfoldable pub faultOf : List ℕ → ℕ
+faultOf g = firstOf (tests g)
 
 -- the message of gathered bytes
 abbrev pub messageIn : List ℕ → Message

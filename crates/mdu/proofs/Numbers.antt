@@ -1,18 +1,17 @@
 -- Which numbers an MDU stream gives: no byte gives another, and short streams give each.
 use Prim.Native.Nat.{ℕ, _+_}
 use mathlib.Core.Path.{refl}
-use mathlib.Core.Bool.{not}
 use mathlib.Core.List.{List, [], _∷_, _++_}
 use mathlib.Core.Option.{Option, some}
 use lib.Dec.{eqb, lit<}
-use lib.ListN.{length, getD, take, drop}
+use lib.ListN.{length, take, drop}
 use Rattle.runs.proofs.Cases.{by-eqb}
 use Rattle.framing.specs.Segment.{Segment}
 use Rattle.framing.proofs.Tests.{of-first}
 use Rattle.framing.proofs.Refusals.{either, Listed, none-listed, Closes, shown, Given}
 use Rattle.checksum.specs.Crc.{crc16Of}
-use Rattle.mdu.specs.Frame.{Message, lengthOk, headerSum}
-use Rattle.mdu.specs.Rules.{Phase, hunting, inHeader, inBody, stated, sentCheck, headerFault, enter, onByte}
+use Rattle.mdu.specs.Frame.{Message}
+use Rattle.mdu.specs.Rules.{Phase, hunting, inHeader, inBody, sentCheck, headerTests, headerFault, enter, onByte}
 use Rattle.mdu.specs.Contract.{link}
 use Rattle.mdu.specs.Claims.{streamNumbers}
 
@@ -26,7 +25,7 @@ Cut r = Closes streamNumbers (r .1)
 fault-listed : (g : List ℕ) → Listed streamNumbers (headerFault g)
 unfolding headerFault
 fault-listed g =
-    of-first (Listed streamNumbers) ((not (eqb (getD g 1 0) 0x01), 9) ∷ (eqb (getD g 4 0) 0, 9) ∷ (not (eqb (getD g 5 0) (headerSum g)), 8) ∷ (not (lengthOk (stated g)), 10) ∷ []) (none-listed streamNumbers)
+    of-first (Listed streamNumbers) (headerTests g) (none-listed streamNumbers)
     (record { listed = λ _. refl }, (record { listed = λ _. refl }, (record { listed = λ _. refl }, (record { listed = λ _. refl }, tt))))
 
 enter-only : (g : List ℕ) → Cut (enter g)

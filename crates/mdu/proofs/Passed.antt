@@ -1,14 +1,13 @@
 -- What the tests of a header say together.
 use Prim.Native.Nat.{ℕ}
 use mathlib.Core.Path.{_≡_, refl}
-use mathlib.Core.Bool.{true, not}
-use mathlib.Core.List.{List, [], _∷_}
-use lib.Dec.{eqb}
+use mathlib.Core.Bool.{true}
+use mathlib.Core.List.{List}
 use lib.ListN.{getD}
 use borrow.Author.Tests.{eqb-true, eqb-false, eq-eqb, ne-eqb, not-false}
 use Rattle.framing.proofs.Tests.{none-fires}
 use Rattle.mdu.specs.Frame.{lengthOk, headerSum}
-use Rattle.mdu.specs.Rules.{stated, headerFault}
+use Rattle.mdu.specs.Rules.{stated, headerTests, headerFault}
 
 -- a header of which no test fires
 pub record Passed (g : List ℕ) : Type 0 where
@@ -21,7 +20,7 @@ module _ (g : List ℕ) where
   pub passed : headerFault g ≡ 0 → Passed g
   unfolding headerFault
   passed h =
-      let t = none-fires ((not (eqb (getD g 1 0) 1), 9) ∷ (eqb (getD g 4 0) 0, 9) ∷ (not (eqb (getD g 5 0) (headerSum g)), 8) ∷ (not (lengthOk (stated g)), 10) ∷ []) refl h in
+      let t = none-fires (headerTests g) refl h in
       record {
         version = eqb-true (getD g 1 0) 1 (not-false _ (t .0));
         address = eqb-false (getD g 4 0) 0 (t .1 .0);

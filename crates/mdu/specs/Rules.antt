@@ -1,6 +1,6 @@
 -- The rules of the MDU receiver: what each byte does, over the gathered bytes as a list, with no store.
 use Prim.Native.Nat.{ℕ, _+_, _*_}
-use mathlib.Core.Bool.{cond, not}
+use mathlib.Core.Bool.{Bool, cond, not}
 use mathlib.Core.List.{List, [], _∷_, _++_}
 use mathlib.Core.Option.{Option, none, some}
 use lib.ListN.{length, getD, take, drop}
@@ -40,14 +40,17 @@ abbrev pub sentCheck : ℕ → List ℕ → ℕ
 sentCheck k g = getD g (6 + k) 0 * 256 + getD g (7 + k) 0
 
 -- the tests of a header, in their order: version, address 0, header sum, length
-unfoldable pub headerFault : List ℕ → ℕ
-headerFault g =
-    firstOf
-    ((not (eqb (getD g 1 0) 0x01), 9)
+abbrev pub headerTests : List ℕ → List (Bool × ℕ)
+headerTests g =
+    (not (eqb (getD g 1 0) 0x01), 9)
     ∷ (eqb (getD g 4 0) 0, 9)
     ∷ (not (eqb (getD g 5 0) (headerSum g)), 8)
     ∷ (not (lengthOk (stated g)), 10)
-    ∷ [])
+    ∷ []
+
+-- the number of the first that fires
+unfoldable pub headerFault : List ℕ → ℕ
+headerFault g = firstOf (headerTests g)
 
 -- byte six: the body follows, or the header is refused
 abbrev pub enter : List ℕ → Phase × Option (Segment Message)

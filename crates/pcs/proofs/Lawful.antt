@@ -7,7 +7,6 @@ use native.Mathlib.Omega.{arith}
 use lib.ListN.{length, take}
 use borrow.Author.Tests.{le-leb}
 use Rattle.runs.proofs.Cases.{by-eqb}
-use Rattle.framing.specs.State.{knownState}
 use Rattle.framing.specs.declared.State.{State}
 use Rattle.framing.proofs.States.{stateOf, shared-next, shared-leaves}
 use Rattle.framing.proofs.Lawful.{Lawful}
@@ -17,7 +16,7 @@ use Rattle.pcs.specs.Contract.{modeOf, phaseOf, link}
 use Rattle.pcs.proofs.OnByte.{reached, takes}
 use Rattle.pcs.proofs.Readback.{frame-bytes, reads-frame}
 
-known-of : (p : Phase) (n : ℕ) → length (gathered p) ≤ size → knownState 2 1 size (stateOf modeOf gathered held p n) ≡ true
+known-of : (p : Phase) (n : ℕ) → length (gathered p) ≤ size → link .known (stateOf modeOf gathered held p n) ≡ true
 known-of hunting n h = refl
 known-of (inside g) n h = le-leb (length g) size h
 

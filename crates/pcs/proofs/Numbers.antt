@@ -1,7 +1,6 @@
 -- Which numbers a PCS stream gives: no byte gives another, and short streams give each.
 use Prim.Native.Nat.{ℕ, _<_}
 use mathlib.Core.Path.{_≡_, refl}
-use mathlib.Core.Bool.{not}
 use mathlib.Core.List.{List, [], _∷_, _++_, sum}
 use mathlib.Core.Option.{Option, none, some}
 use native.Mathlib.Omega.{arith}
@@ -19,7 +18,7 @@ use Rattle.framing.proofs.Refusals.{either, Listed, none-listed, Closes, shown,
 use Rattle.packing.specs.Seven.{isSent}
 use Rattle.packing.specs.Unpacked.{allSent, wellEnded, wellPacked, unpacked}
 use Rattle.pcs.specs.Frame.{Message}
-use Rattle.pcs.specs.Rules.{Phase, hunting, inside, size, packedPart, asksCrc, sumRight, fieldsOk, lengthRight, faultOf, unpack, onByte}
+use Rattle.pcs.specs.Rules.{Phase, hunting, inside, size, packedPart, tests, faultOf, unpack, onByte}
 use Rattle.pcs.specs.Contract.{link}
 use Rattle.pcs.specs.Claims.{streamNumbers}
 
@@ -33,7 +32,7 @@ Cut r = Closes streamNumbers (r .1)
 fault-listed : (g : List ℕ) → Listed streamNumbers (faultOf g)
 unfolding faultOf
 fault-listed g =
-    of-first (Listed streamNumbers) ((ltb (length g) 9, 6) ∷ (asksCrc g, 11) ∷ (not (sumRight g), 8) ∷ (not (fieldsOk g), 9) ∷ (not (lengthRight g), 10) ∷ []) (none-listed streamNumbers)
+    of-first (Listed streamNumbers) (tests g) (none-listed streamNumbers)
     (record { listed = λ _. refl }, (record { listed = λ _. refl }, (record { listed = λ _. refl }, (record { listed = λ _. refl }, (record { listed = λ _. refl }, tt)))))
 
 unpack-ends : (g wire : List ℕ) (o : Option (List ℕ)) → Ended (unpack g wire o)

@@ -1,14 +1,13 @@
 -- What the tests at the end of a frame say together.
 use Prim.Native.Nat.{ℕ, _-_, _≤_}
 use mathlib.Core.Path.{_≡_, refl}
-use mathlib.Core.Bool.{true, false, not}
-use mathlib.Core.List.{List, [], _∷_}
-use lib.Dec.{ltb}
+use mathlib.Core.Bool.{true, false}
+use mathlib.Core.List.{List}
 use lib.ListN.{length, getD, take}
 use borrow.Author.Tests.{ltb-false, le-ltb, eqb-true, eq-eqb, not-false}
 use Rattle.framing.proofs.Tests.{none-fires}
 use Rattle.checksum.specs.Sum.{sumOf}
-use Rattle.pcs.specs.Rules.{stated, asksCrc, sumRight, fieldsOk, lengthRight, faultOf}
+use Rattle.pcs.specs.Rules.{stated, asksCrc, fieldsOk, tests, faultOf}
 
 -- gathered bytes of which no test before unpacking fires
 pub record Passed (g : List ℕ) : Type 0 where
@@ -22,7 +21,7 @@ module _ (g : List ℕ) where
   pub passed : faultOf g ≡ 0 → Passed g
   unfolding faultOf
   passed h =
-      let t = none-fires ((ltb (length g) 9, 6) ∷ (asksCrc g, 11) ∷ (not (sumRight g), 8) ∷ (not (fieldsOk g), 9) ∷ (not (lengthRight g), 10) ∷ []) refl h in
+      let t = none-fires (tests g) refl h in
       record {
         long = ltb-false (length g) 9 (t .0);
         plain = t .1 .0;

@@ -60,15 +60,18 @@ abbrev pub lengthRight : List ℕ → Bool
 lengthRight g = eqb (stated g) (length g - 9)
 
 -- the tests at the end of a frame before its data is unpacked, in their order
-unfoldable pub faultOf : List ℕ → ℕ
-faultOf g =
-    firstOf
-    ((ltb (length g) 9, 6)
+abbrev pub tests : List ℕ → List (Bool × ℕ)
+tests g =
+    (ltb (length g) 9, 6)
     ∷ (asksCrc g, 11)
     ∷ (not (sumRight g), 8)
     ∷ (not (fieldsOk g), 9)
     ∷ (not (lengthRight g), 10)
-    ∷ [])
+    ∷ []
+
+-- the number of the first that fires
+unfoldable pub faultOf : List ℕ → ℕ
+faultOf g = firstOf (tests g)
 
 -- the last test: 13 where the data is badly packed
 abbrev pub unpack : List ℕ → List ℕ → Option (List ℕ) → Segment Message

@@ -217,7 +217,7 @@ fn inside_byte(state: State, store: &mut [u8], byte: u8) -> Stepped
     if byte == fields::START {
         return Stepped {
             event: Event::Refused(refusal::NEW_START),
-            state: framing::reopen(state, 1, 0, 1),
+            state: framing::reopen(state, 1, 0, 1), // the 253 opens the next frame
         };
     }
     if byte == fields::END {
