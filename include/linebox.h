@@ -6,6 +6,8 @@
  *   DLE        10 02 .. 10 03 (hex), a 10 between the marks is doubled, no check value
  *   expansion  FD .. FE (hex), the marks are escaped by FF, a 32-bit CRC
  *
+ * For C99 and C++11, and later.
+ *
  * Every function is a plain function of its arguments: it keeps nothing between calls, allocates nothing, and may be
  * called from several threads at once as long as they lend different memory.
  *

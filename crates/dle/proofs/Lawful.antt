@@ -27,7 +27,7 @@ known-of half n h = refl
 known-of (inside true g) n h = le-leb (length g) size h
 known-of (inside false g) n h = le-leb (length g) size h
 
-phase-of : (p : Phase) (n : ℕ) (store : List ℕ) → take (length (gathered p)) store ≡ gathered p → phaseOf (stateIn p n) store ≡ p
+pub phase-of : (p : Phase) (n : ℕ) (store : List ℕ) → take (length (gathered p)) store ≡ gathered p → phaseOf (stateIn p n) store ≡ p
 phase-of hunting n store h = refl
 phase-of half n store h = refl
 phase-of (inside true g) n store h = ap (inside true) h

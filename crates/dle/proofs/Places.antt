@@ -1,15 +1,13 @@
 -- What a call leaves in the store.
 use Prim.Native.Nat.{ℕ, _≤_}
-use mathlib.Core.Path.{_≡_, refl, ap}
-use mathlib.Core.Bool.{true, false}
+use mathlib.Core.Path.{_≡_, refl}
 use mathlib.Core.List.{List, [], _∷_, _++_}
 use mathlib.Core.Option.{Option, some}
 use native.Mathlib.Omega.{arith}
-use lib.ListN.{length, take, length-append, length-take}
+use lib.ListN.{length, length-append}
 use Rattle.runs.specs.Runs.{over}
 use Rattle.runs.proofs.Cases.{by-eqb, by-ltb}
 use Rattle.framing.specs.Segment.{Segment}
-use Rattle.framing.specs.State.{stateAfter}
 use Rattle.framing.specs.declared.State.{State}
 use Rattle.framing.proofs.Byte.{by-end}
 use Rattle.framing.proofs.States.{known-count}
@@ -18,8 +16,10 @@ use Rattle.escape.specs.Code.{Meaning, byte, waits, start, end, wrong, meaning}
 use Rattle.escape.specs.Dle.{dle}
 use Rattle.dle.specs.Frame.{Message}
 use Rattle.dle.specs.Rules.{Phase, hunting, half, inside, size, gathered, held, judge, act, onByte}
-use Rattle.dle.specs.Contract.{modeOf, phaseOf, link}
+use Rattle.dle.specs.Contract.{phaseOf, link}
 use Rattle.dle.proofs.OnByte.{Judged, judge-ends, takes}
+use Rattle.dle.proofs.Lawful.{phase-of}
+use Rattle.dle.proofs.Steps.{counted}
 
 -- a byte that leads to r, where g was gathered
 abbrev Next : List ℕ → ℕ → Phase × Option (Segment Message) → Type 0
@@ -41,24 +41,11 @@ lays hunting b h = by-eqb (Next [] b) b 0x10 (λ _. record { laid = (refl, omega
 lays half b h = by-eqb (Next [] b) b 0x02 (λ _. record { laid = (refl, omega arith) }) (λ _. record { laid = (refl, omega arith) })
 lays (inside w g) b h = act-lays g (held (inside w g) ++ (b ∷ [])) b (meaning dle w b) h
 
-counted : (s : State) (store : List ℕ) → length (gathered (phaseOf s store)) ≤ s .count
-counted s store = by-eqb P (s .mode) 0 (λ _. omega arith) (λ _. by-eqb P (s .mode) 1 (λ _. omega arith) (λ _. simp length-take (omega arith)))
-  where
-    P : Phase → Type 0
-    P p = length (gathered p) ≤ s .count
-
 front-first : (s : State) (store : List ℕ) → over (gathered (phaseOf s store)) store ≡ store
 front-first s store = by-eqb P (s .mode) 0 (λ _. refl) (λ _. by-eqb P (s .mode) 1 (λ _. refl) (λ _. over-first (s .count) store))
   where
     P : Phase → Type 0
     P p = over (gathered p) store ≡ store
-
-phase-after : (s : State) (q : Phase) (o : Option (Segment Message)) (store : List ℕ) → take (length (gathered q)) store ≡ gathered q
-    → phaseOf (stateAfter modeOf gathered held s q o) store ≡ q
-phase-after s hunting o store h = refl
-phase-after s half o store h = refl
-phase-after s (inside true g) o store h = ap (inside true) h
-phase-after s (inside false g) o store h = ap (inside false) h
 
 pub storing : Storing link (λ g b. g) (λ m. [])
 storing =
@@ -68,6 +55,6 @@ storing =
       fit-next = λ p b h. takes p b h .good;
       fits = λ p h. h;
       front-first = front-first;
-      phase-after = λ s q o store h. phase-after s q o store;
+      phase-after = λ s q o store _. phase-of q 0 store;
       lays = lays;
     }

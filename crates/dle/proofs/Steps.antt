@@ -27,7 +27,7 @@ pub half-keeps : (store : List ℕ) (b : ℕ) → Keeps store (onByte half b)
 half-keeps store b = by-eqb (Keeps store) b 0x02 (λ _. refl) (λ _. refl)
 
 -- what is gathered is as much as the count says, or less
-counted : (s : State) (store : List ℕ) → length (gathered (phaseOf s store)) ≤ s .count
+pub counted : (s : State) (store : List ℕ) → length (gathered (phaseOf s store)) ≤ s .count
 counted s store = by-eqb P (s .mode) 0 (λ _. omega arith) (λ _. by-eqb P (s .mode) 1 (λ _. omega arith) (λ _. simp length-take (omega arith)))
   where
     P : Phase → Type 0

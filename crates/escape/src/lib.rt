@@ -275,7 +275,8 @@ fn unhide_within(escapes: Escapes, wire: &[u8], out: &mut [u8], at: usize, most:
     requires { ⌜ escapes .first ≤ escapes .escape ⌝ }
     ensures count { λ r. ⌜ r .count ≡ length (unhideBy escapes (min most (length (now (out .entry)) - at)) (now (wire .entry)) .0) ⌝ }
     ensures used { λ r. ⌜ r .used ≡ unhideBy escapes (min most (length (now (out .entry)) - at)) (now (wire .entry)) .1 ⌝ }
-    ensures put { λ r. ⌜ now (out .exit) ≡ sets (now (out .entry)) at (unhideBy escapes (min most (length (now (out .entry)) - at)) (now (wire .entry)) .0) ⌝ }
+    ensures put { λ r. ⌜ now (out .exit)
+        ≡ sets (now (out .entry)) at (unhideBy escapes (min most (length (now (out .entry)) - at)) (now (wire .entry)) .0) ⌝ }
 {
     if at <= out.len() {
         let room = runs::least(most, out.len() - at);
@@ -326,7 +327,8 @@ pub fn dle_unhide_into(wire: &[u8], out: &mut [u8], at: usize, most: usize) -> U
 pub fn expansion_unhide_into(wire: &[u8], out: &mut [u8], at: usize, most: usize) -> Unhidden
     ensures count { λ r. ⌜ r .count ≡ length (unhideInto expansion most (now (wire .entry)) (now (out .entry)) at .0) ⌝ }
     ensures used { λ r. ⌜ r .used ≡ unhideInto expansion most (now (wire .entry)) (now (out .entry)) at .1 ⌝ }
-    ensures put { λ r. ⌜ now (out .exit) ≡ sets (now (out .entry)) at (unhideInto expansion most (now (wire .entry)) (now (out .entry)) at .0) ⌝ }
+    ensures put { λ r. ⌜ now (out .exit)
+        ≡ sets (now (out .entry)) at (unhideInto expansion most (now (wire .entry)) (now (out .entry)) at .0) ⌝ }
 {
     unhide_within(EXPANSION, wire, out, at, most)
 }

@@ -26,11 +26,11 @@ act-sized g before wire start h = omega arith
 act-sized g before wire end h = omega arith
 act-sized g before wire wrong h = omega arith
 
-byte-sized : (p : Phase) (b : ℕ) → length (gathered p) ≤ size → Sized (onByte p b)
+pub byte-sized : (p : Phase) (b : ℕ) → length (gathered p) ≤ size → Sized (onByte p b)
 byte-sized hunting b h = by-eqb Sized b 0xFD (λ _. omega arith) (λ _. omega arith)
 byte-sized (inside w g) b h = act-sized g (held (inside w g)) (held (inside w g) ++ (b ∷ [])) (meaning expansion w b) h
 
-counted : (s : State) (store : List ℕ) → length (gathered (phaseOf s store)) ≤ s .count
+pub counted : (s : State) (store : List ℕ) → length (gathered (phaseOf s store)) ≤ s .count
 counted s store =
     by-eqb (λ (p : Phase). length (gathered p) ≤ s .count) (s .mode) 0 (λ _. omega arith) (λ _. simp length-take (omega arith))
 

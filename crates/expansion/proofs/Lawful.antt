@@ -30,7 +30,7 @@ known-of hunting n h = refl
 known-of (inside true g) n h = le-leb (length g) size (h .1)
 known-of (inside false g) n h = le-leb (length g) size (h .1)
 
-phase-of : (p : Phase) (n : ℕ) (store : List ℕ) → take (length (gathered p)) store ≡ gathered p → phaseOf (stateOf modeOf gathered held p n) store ≡ p
+pub phase-of : (p : Phase) (n : ℕ) (store : List ℕ) → take (length (gathered p)) store ≡ gathered p → phaseOf (stateOf modeOf gathered held p n) store ≡ p
 phase-of hunting n store h = refl
 phase-of (inside true g) n store h = ap (inside true) h
 phase-of (inside false g) n store h = ap (inside false) h

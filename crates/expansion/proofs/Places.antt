@@ -1,15 +1,13 @@
 -- What a call leaves in the store.
 use Prim.Native.Nat.{ℕ, _≤_}
-use mathlib.Core.Path.{_≡_, refl, ap}
-use mathlib.Core.Bool.{true, false}
+use mathlib.Core.Path.{_≡_, refl}
 use mathlib.Core.List.{List, [], _∷_, _++_}
 use mathlib.Core.Option.{Option, some}
 use native.Mathlib.Omega.{arith}
-use lib.ListN.{length, take, length-append, length-take}
+use lib.ListN.{length, length-append}
 use Rattle.runs.specs.Runs.{over}
 use Rattle.runs.proofs.Cases.{by-eqb, by-ltb}
 use Rattle.framing.specs.Segment.{Segment}
-use Rattle.framing.specs.State.{stateAfter}
 use Rattle.framing.specs.declared.State.{State}
 use Rattle.framing.proofs.Byte.{by-end}
 use Rattle.framing.proofs.States.{known-count}
@@ -18,8 +16,10 @@ use Rattle.escape.specs.Code.{Meaning, byte, waits, start, end, wrong, meaning}
 use Rattle.escape.specs.Expansion.{expansion}
 use Rattle.expansion.specs.Frame.{Message}
 use Rattle.expansion.specs.Rules.{Phase, hunting, inside, size, gathered, held, judge, act, onByte}
-use Rattle.expansion.specs.Contract.{modeOf, phaseOf, link}
+use Rattle.expansion.specs.Contract.{phaseOf, link}
 use Rattle.expansion.proofs.OnByte.{Judged, judge-ends}
+use Rattle.expansion.proofs.Lawful.{phase-of}
+use Rattle.expansion.proofs.Count.{counted, byte-sized}
 
 -- a byte that leads to r, where g was gathered
 abbrev Next : List ℕ → ℕ → Phase × Option (Segment Message) → Type 0
@@ -40,41 +40,17 @@ lays : (p : Phase) (b : ℕ) → length (gathered p) ≤ size → Next (gathered
 lays hunting b h = by-eqb (Next [] b) b 0xFD (λ _. record { laid = (refl, omega arith) }) (λ _. record { laid = (refl, omega arith) })
 lays (inside w g) b h = act-lays g (held (inside w g)) (held (inside w g) ++ (b ∷ [])) b (meaning expansion w b) h
 
--- no more is gathered than the size, whatever the byte
-act-fits : (g before wire : List ℕ) (m : Meaning) → length g ≤ size → length (gathered (act g before wire m .0)) ≤ size
-act-fits g before wire (byte v) h =
-    by-ltb (λ (r : Phase × Option (Segment Message)). length (gathered (r .0)) ≤ size) (length g) size (λ l. simp length-append (omega arith)) (λ _. omega arith)
-act-fits g before wire waits h = h
-act-fits g before wire start h = omega arith
-act-fits g before wire end h = omega arith
-act-fits g before wire wrong h = omega arith
-
-fit-next : (p : Phase) (b : ℕ) → length (gathered p) ≤ size → length (gathered (onByte p b .0)) ≤ size
-fit-next hunting b h =
-    by-eqb (λ (r : Phase × Option (Segment Message)). length (gathered (r .0)) ≤ size) b 0xFD (λ _. omega arith) (λ _. omega arith)
-fit-next (inside w g) b h = act-fits g (held (inside w g)) (held (inside w g) ++ (b ∷ [])) (meaning expansion w b) h
-
-counted : (s : State) (store : List ℕ) → length (gathered (phaseOf s store)) ≤ s .count
-counted s store =
-    by-eqb (λ (p : Phase). length (gathered p) ≤ s .count) (s .mode) 0 (λ _. omega arith) (λ _. simp length-take (omega arith))
-
 front-first : (s : State) (store : List ℕ) → over (gathered (phaseOf s store)) store ≡ store
 front-first s store = by-eqb (λ (p : Phase). over (gathered p) store ≡ store) (s .mode) 0 (λ _. refl) (λ _. over-first (s .count) store)
-
-phase-after : (s : State) (q : Phase) (o : Option (Segment Message)) (store : List ℕ) → take (length (gathered q)) store ≡ gathered q
-    → phaseOf (stateAfter modeOf gathered held s q o) store ≡ q
-phase-after s hunting o store h = refl
-phase-after s (inside true g) o store h = ap (inside true) h
-phase-after s (inside false g) o store h = ap (inside false) h
 
 pub storing : Storing link (λ g b. g) (λ m. [])
 storing =
     record {
       Fit = λ p. length (gathered p) ≤ size;
       fit-known = λ s store k room. omega (arith, counted s store, known-count 3 1 size s k);
-      fit-next = fit-next;
+      fit-next = byte-sized;
       fits = λ p h. h;
       front-first = front-first;
-      phase-after = λ s q o store h. phase-after s q o store;
+      phase-after = λ s q o store _. phase-of q 0 store;
       lays = lays;
     }

@@ -1,19 +1,15 @@
 -- What the number of a message packs on each link.
-use Prim.Native.Nat.{ℕ, zero, suc, _<_}
+use Prim.Native.Nat.{ℕ, zero, suc}
 use mathlib.Core.Path.{_≡_, refl}
 use mathlib.Core.Bool.{true, cond}
-use mathlib.Core.List.{List, [], _∷_, _++_}
+use mathlib.Core.List.{List, [], _∷_}
 use native.Mathlib.Omega.{arith}
 use lib.Dec.{eqb, leb, lit<}
 use lib.ListN.{length}
 use borrow.Author.Tests.{leb-true, ne-eqb}
-use Rattle.runs.specs.Runs.{Bytes, each}
-use Rattle.runs.proofs.Bytes.{bytes-left, bytes-right, bytes-take, bytes-one, bytes-two, bytes-append}
+use Rattle.runs.specs.Runs.{Bytes}
+use Rattle.runs.proofs.Bytes.{bytes-one, bytes-two, bytes-append}
 use Rattle.runs.proofs.Cases.{and-both, by-eqb}
-use Rattle.escape.specs.Code.{hide}
-use Rattle.escape.specs.Dle as Doubled
-use Rattle.escape.specs.Expansion as Escaped
-use Rattle.escape.proofs.Expansion.{by-byte}
 use Rattle.pcs.specs.declared.Message as PcsNumbers
 use Rattle.pcs.specs.Frame as PcsFrame
 use Rattle.pcs.specs.Contract as Pcs

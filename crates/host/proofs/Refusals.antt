@@ -23,7 +23,7 @@ differ : {A : Type 0} → _≡_ {A = ℕ} 0 1 → A
 differ e = absurd (omega arith)
 
 -- every number of a list passes a test, which the checker works out
-abbrev every : (ℕ → Bool) → List ℕ → Bool
+abbrev pub every : (ℕ → Bool) → List ℕ → Bool
 every test [] = true
 every test (n ∷ ns) = test n && every test ns
 

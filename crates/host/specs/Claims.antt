@@ -8,11 +8,12 @@ use lib.ListN.{length}
 use Rattle.runs.specs.Runs.{Bytes}
 use Rattle.framing.specs.Answer.{done, refused}
 use Rattle.framing.specs.Link.{Link}
-use Rattle.framing.specs.Whole.{readOn}
+use Rattle.framing.specs.Whole.{readOn, OnlyFrames, FramesRead}
+use Rattle.framing.specs.Refusals.{ReadsGive, WritesGive}
 use Rattle.host.specs.Read.{reads, refusalOf}
 
--- the refusals of each read, and no others: a short store, what its receiver gives of a stream, and 6 for bytes that are not one whole frame. So 4 and
--- 5 are not given on MDU, 7 on DLE and expansion only, 8 and 9 not on DLE, 10 not on expansion, 11 and 13 on PCS only, and 2, 3 and 12 by no read
+-- the refusals of each read, and no others: a short store, what its receiver gives of a stream, and 6 for bytes that are not one whole frame. So
+-- 4 and 5 are not given on MDU, 7 on DLE and expansion only, 8 and 9 not on DLE, 10 not on expansion, 11 and 13 on PCS only, 2, 3 and 12 by no read
 abbrev pub pcsRefusals : List ℕ
 pcsRefusals = 1 ∷ 4 ∷ 5 ∷ 6 ∷ 8 ∷ 9 ∷ 10 ∷ 11 ∷ 13 ∷ []
 
@@ -45,3 +46,13 @@ module _ (L : Link) where
   abbrev pub PartTold : (L .Numbers → ℕ) → (ℕ → ℕ) → (L .Numbers → ℕ) → Type 0
   PartTold code accessor part =
       (run store : List ℕ) (v : L .Numbers) → Bytes run → readOn L run store .0 ≡ done v → accessor (reads L code run store .0) ≡ part v
+
+-- what is claimed of the calls on a link whose messages are told by a code and whose reads give these refusals
+pub record CallsOf (L : Link) (code : L .Numbers → ℕ) (refusals : List ℕ) : Type 0 where
+  pub frame-bound : FrameBound L
+  pub only-frames : OnlyFrames L
+  pub frames-read : FramesRead L
+  pub reads-give : ReadsGive L refusals
+  pub writes-give : WritesGive L
+  pub refusals-fit : RefusalsFit L
+  pub refusal-told : RefusalTold L code

@@ -21,7 +21,7 @@ known-of : (p : Phase) (n : ℕ) → length (gathered p) ≤ size → knownState
 known-of hunting n h = refl
 known-of (inside g) n h = le-leb (length g) size h
 
-phase-of : (p : Phase) (n : ℕ) (store : List ℕ) → take (length (gathered p)) store ≡ gathered p → phaseOf (stateOf modeOf gathered held p n) store ≡ p
+pub phase-of : (p : Phase) (n : ℕ) (store : List ℕ) → take (length (gathered p)) store ≡ gathered p → phaseOf (stateOf modeOf gathered held p n) store ≡ p
 phase-of hunting n store h = refl
 phase-of (inside x) n store h = ap inside h
 

@@ -34,7 +34,7 @@ pub hunting-store : (store : List ℕ) (b : ℕ) → over (frontOf (onByte hunti
 hunting-store store b = by-eqb (λ (r : Phase × Option (Segment Frame.Message)). over (frontOf r) store ≡ store) b 253 (λ _. refl) (λ _. refl)
 
 -- the count stays within the size
-counted : (s : State) (store : List ℕ) → length (gathered (phaseOf s store)) ≤ s .count
+pub counted : (s : State) (store : List ℕ) → length (gathered (phaseOf s store)) ≤ s .count
 counted s store =
     by-eqb (λ (p : Phase). length (gathered p) ≤ s .count) (s .mode) 0 (λ _. omega arith) (λ _. simp length-take (omega arith))
 

@@ -97,7 +97,7 @@ fn ask(line: &[u8], asking: gate::Exchange) -> gate::Exchange {
     stepped(step(line, asking))
 }
 
-pub(crate) fn answer(line: &[u8], asking: gate::Exchange) -> gate::Exchange {
+pub(crate) fn run(line: &[u8], asking: gate::Exchange) -> gate::Exchange {
     if words::is(line, 0, b"ask") {
         return ask(line, asking);
     }

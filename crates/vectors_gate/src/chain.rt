@@ -26,7 +26,7 @@ fn chain(line: &[u8]) {
     }
 }
 
-pub(crate) fn answer(line: &[u8]) {
+pub(crate) fn run(line: &[u8]) {
     if words::is(line, 0, b"chain") {
         chain(line);
     }

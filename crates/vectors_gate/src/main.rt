@@ -20,11 +20,11 @@ fn fresh() -> Ends {
 }
 
 // One line, without its end.
-fn answer_line(line: &[u8], ends: Ends) -> Ends {
+fn run_line(line: &[u8], ends: Ends) -> Ends {
     print::text(line);
-    let asking = asking::answer(line, ends.asking);
-    let responder = responding::answer(line, ends.responder);
-    chain::answer(line);
+    let asking = asking::run(line, ends.asking);
+    let responder = responding::run(line, ends.responder);
+    chain::run(line);
     print::text(b"\n");
     Ends {
         asking: asking,
@@ -32,12 +32,12 @@ fn answer_line(line: &[u8], ends: Ends) -> Ends {
     }
 }
 
-fn answer_lines(text: &[u8]) {
+fn run_lines(text: &[u8]) {
     let mut ends = fresh();
     let mut at = 0;
     while at < text.len() {
         let end = bytes::scan::find(text, at, text.len(), b'\n');
-        ends = answer_line(&text[at..end], ends);
+        ends = run_line(&text[at..end], ends);
         if end == text.len() {
             return;
         }
@@ -48,5 +48,5 @@ fn answer_lines(text: &[u8]) {
 fn main() {
     let mut text = io::large_buffer();
     let length = io::read_full(libc::STDIN_FILENO, &mut text);
-    answer_lines(&text[..length]);
+    run_lines(&text[..length]);
 }

@@ -73,7 +73,7 @@ fn respond_refused(line: &[u8], responder: gate::Responder) -> gate::Responder {
     responded(gate::respond(responder, words::is(line, 1, b"head"), event, &store[..n]))
 }
 
-pub(crate) fn answer(line: &[u8], responder: gate::Responder) -> gate::Responder {
+pub(crate) fn run(line: &[u8], responder: gate::Responder) -> gate::Responder {
     if words::is(line, 0, b"respond") {
         return respond_accepted(line, responder);
     }

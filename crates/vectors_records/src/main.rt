@@ -10,10 +10,10 @@ use vector_text::print;
 use vector_text::words;
 
 // A call with the bytes that the last `keep` line gave.
-fn answer_call(call: &[u8], kept: &[u8]) {
-    records::answer(call, kept);
-    makers::answer(call);
-    views::answer(call, kept);
+fn run_call(call: &[u8], kept: &[u8]) {
+    records::run(call, kept);
+    makers::run(call);
+    views::run(call, kept);
 }
 
 // Keeps the bytes of a `keep` line; answers how many are kept.
@@ -25,21 +25,21 @@ fn keep(line: &[u8], kept: &mut [u8], last: usize) -> usize {
 }
 
 // One line, without its end; answers how many bytes are kept.
-fn answer_line(line: &[u8], kept: &mut [u8], last: usize) -> usize {
+fn run_line(line: &[u8], kept: &mut [u8], last: usize) -> usize {
     print::text(line);
     let count = keep(line, kept, last);
     let n = memory::within(count, kept);
-    answer_call(words::call(line), &kept[..n]);
+    run_call(words::call(line), &kept[..n]);
     print::text(b"\n");
     n
 }
 
-fn answer_lines(text: &[u8], kept: &mut [u8]) {
+fn run_lines(text: &[u8], kept: &mut [u8]) {
     let mut last = 0;
     let mut at = 0;
     while at < text.len() {
         let end = bytes::scan::find(text, at, text.len(), b'\n');
-        last = answer_line(&text[at..end], kept, last);
+        last = run_line(&text[at..end], kept, last);
         if end == text.len() {
             return;
         }
@@ -51,5 +51,5 @@ fn main() {
     let mut text = io::large_buffer();
     let mut kept = io::buffer();
     let length = io::read_full(libc::STDIN_FILENO, &mut text);
-    answer_lines(&text[..length], &mut kept);
+    run_lines(&text[..length], &mut kept);
 }

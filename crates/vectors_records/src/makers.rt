@@ -73,7 +73,7 @@ fn make(line: &[u8]) {
     show_made(line, &mut memory[..room]);
 }
 
-pub(crate) fn answer(line: &[u8]) {
+pub(crate) fn run(line: &[u8]) {
     if words::is(line, 0, b"make") {
         make(line);
     }

@@ -81,7 +81,7 @@ fn element(line: &[u8], payload: &[u8]) {
     }
 }
 
-fn answer_payload(line: &[u8], payload: &[u8]) {
+fn run_payload(line: &[u8], payload: &[u8]) {
     if words::is(line, 0, b"copy") {
         copy(line, payload);
     }
@@ -90,8 +90,8 @@ fn answer_payload(line: &[u8], payload: &[u8]) {
     }
 }
 
-pub(crate) fn answer(line: &[u8], kept: &[u8]) {
+pub(crate) fn run(line: &[u8], kept: &[u8]) {
     let mut payload = io::buffer();
     let n = words::bytes(line, 2, kept, &mut payload);
-    answer_payload(line, &payload[..n]);
+    run_payload(line, &payload[..n]);
 }

@@ -63,23 +63,23 @@ fn view_element(line: &[u8], payload: &[u8]) {
     }
 }
 
-fn answer_view(line: &[u8], kept: &[u8]) {
+fn run_view(line: &[u8], kept: &[u8]) {
     let mut payload = io::buffer();
     let n = words::bytes(line, 1, kept, &mut payload);
     view(&payload[..n]);
 }
 
-fn answer_element(line: &[u8], kept: &[u8]) {
+fn run_element(line: &[u8], kept: &[u8]) {
     let mut payload = io::buffer();
     let n = words::bytes(line, 2, kept, &mut payload);
     view_element(line, &payload[..n]);
 }
 
-pub(crate) fn answer(line: &[u8], kept: &[u8]) {
+pub(crate) fn run(line: &[u8], kept: &[u8]) {
     if words::is(line, 0, b"view") {
-        answer_view(line, kept);
+        run_view(line, kept);
     }
     if words::is(line, 0, b"view-element") {
-        answer_element(line, kept);
+        run_element(line, kept);
     }
 }
