@@ -48,7 +48,8 @@ pub record Stands (g store : List ℕ) : Type 0 where
 -- a call that ends in 8 leaves the gathered bytes in the store, so that the frame can be answered
 abbrev pub RefusedHeader : Type 0
 RefusedHeader =
-    (c : Lent link) (piece : List ℕ) → callOn link c piece .event ≡ some (refusal 8) → Stands (gatheredBefore c piece) (callOn link c piece .after .1)
+    (c : Lent link) (piece : List ℕ) → callOn link c piece .event ≡ some (refusal 8)
+    → Stands (gatheredBefore c piece) (callOn link c piece .after .1)
 
 -- the last segment of a stream is a frame refused with 8: on the wire it is g, hidden between the marks, and g stands at the start of the store
 pub record RefusedFrame (stream store g : List ℕ) : Type 0 where

@@ -68,7 +68,8 @@ pub fn write(
     out: &mut [u8],
 ) -> Answer
     ensures { λ r. ⌜ (outcomeOf r, now (out .exit))
-        ≡ writes ok frame (withFields receiver sender kind number «sender_port» «receiver_port» (now («data» .entry))) (now (out .entry)) ⌝ }
+        ≡ writes ok frame
+        (withFields receiver sender kind number «sender_port» «receiver_port» (now («data» .entry))) (now (out .entry)) ⌝ }
 {
     let message = Message {
         receiver: receiver,

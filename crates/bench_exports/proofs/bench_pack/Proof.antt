@@ -6,19 +6,10 @@ use borrow.Author.Needs.{needs}
 use Rattle.bench_exports.proofs.bench_pack.Statement.{statement}
 use Rattle.bench_exports.proofs.bench_pack.Tie as tie
 
-pack-into-requires : tie.Need-pack-into-requires
-pack-into-requires c κs = search needs
-
-count-of-requires : tie.Need-count-of-requires
-count-of-requires c κs = search needs
-
-same-length : tie.Need-same-length
-same-length c = search needs
-
 returns : tie.Need-returns
 returns c =
     let e = c .before .before .before .pack-into .ensures in
     (c .count-of .ensures ∙ ap (λ (p : Outcome ℕ × List ℕ). countOf (p .0)) e, ap (λ (p : Outcome ℕ × List ℕ). p .1) e)
 
 pub bench-pack-spec : {M : Type 1} → statement M
-bench-pack-spec = tie.close (tie.spec pack-into-requires count-of-requires same-length returns)
+bench-pack-spec = tie.close (tie.spec (λ c κs. search needs) (λ c κs. search needs) (λ c. search needs) returns)

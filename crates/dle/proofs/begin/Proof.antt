@@ -5,12 +5,6 @@ use mathlib.Core.Path.{refl}
 use Rattle.dle.proofs.begin.Statement.{statement}
 use Rattle.dle.proofs.begin.Tie as tie
 
-hold-requires : tie.Need-hold-requires
-hold-requires c κs = search needs
-
-add-noise-requires : tie.Need-add-noise-requires
-add-noise-requires c κs = search needs
-
 returns : tie.Need-returns
 returns c =
     let a = c .before .before .args in
@@ -23,4 +17,4 @@ returns-2 c =
     rw (ne-eqb (a .byte) 0x02 (c .before .if1 .left), c .add-noise .ensures) (record { tells = refl; state = refl })
 
 pub begin-spec : {M : Type 1} → statement M
-begin-spec = tie.close (tie.spec hold-requires add-noise-requires returns returns-2)
+begin-spec = tie.close (tie.spec (λ c κs. search needs) (λ c κs. search needs) returns returns-2)

@@ -3,9 +3,6 @@ use borrow.Author.Needs.{needs}
 use Rattle.dle.proofs.bytes_behind.Statement.{statement}
 use Rattle.dle.proofs.bytes_behind.Tie as tie
 
-wide-requires : tie.Need-wide-requires
-wide-requires c κs = search needs
-
 returns : tie.Need-returns
 returns c = rw (eq-eqb _ 0 (c .if1 .taken))
 
@@ -13,4 +10,4 @@ returns-2 : tie.Need-returns-2
 returns-2 c = rw (ne-eqb _ 0 (c .before .if1 .left)) (c .wide .ensures)
 
 pub bytes-behind-spec : {M : Type 1} → statement M
-bytes-behind-spec = tie.close (tie.spec wide-requires returns returns-2)
+bytes-behind-spec = tie.close (tie.spec (λ c κs. search needs) returns returns-2)

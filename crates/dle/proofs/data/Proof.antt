@@ -5,14 +5,8 @@ use borrow.Author.Needs.{needs}
 use Rattle.dle.proofs.data.Statement.{statement}
 use Rattle.dle.proofs.data.Tie as tie
 
-wide-requires : tie.Need-wide-requires
-wide-requires c κs = search needs
-
-data-at-requires : tie.Need-data-at-requires
-data-at-requires c κs = search needs
-
 returns : tie.Need-returns
 returns c = c .data-at .ensures ∙ ap (λ (n : ℕ). dataAt 3 n (c .before .before .before .args .store .now)) (c .before .wide .ensures)
 
 pub data-spec : {M : Type 1} → statement M
-data-spec = tie.close (tie.spec wide-requires data-at-requires returns)
+data-spec = tie.close (tie.spec (λ c κs. search needs) (λ c κs. search needs) returns)

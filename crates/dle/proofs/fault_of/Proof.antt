@@ -11,15 +11,6 @@ returns : tie.Need-returns
 unfolding faultOf
 returns c = rw (lt-ltb _ 4 (c .if1 .taken))
 
-shared-slice-read-bytes-behind : tie.Need-shared-slice-read-bytes-behind
-shared-slice-read-bytes-behind c = search needs
-
-bytes-behind-requires : tie.Need-bytes-behind-requires
-bytes-behind-requires c κs = search needs
-
-sub-if2 : tie.Need-sub-if2
-sub-if2 c = search needs
-
 returns-2 : tie.Need-returns-2
 unfolding faultOf
 returns-2 c =
@@ -34,11 +25,4 @@ returns-3 c =
 
 pub fault-of-spec : {M : Type 1} → statement M
 fault-of-spec =
-    tie.close
-    (tie.spec
-    returns
-    shared-slice-read-bytes-behind
-    bytes-behind-requires
-    sub-if2
-    returns-2
-    returns-3)
+    tie.close (tie.spec returns (λ c. search needs) (λ c κs. search needs) (λ c. search needs) returns-2 returns-3)

@@ -11,25 +11,10 @@ use Rattle.dle.proofs.Written.{hidden-short, frame-length, frame-most}
 use Rattle.dle.proofs.has_room.Statement.{statement}
 use Rattle.dle.proofs.has_room.Tie as tie
 
-add-if1 : tie.Need-add-if1
-add-if1 c = search needs
-
-mul-if1 : tie.Need-mul-if1
-mul-if1 c = search needs
-
-add-if1-2 : tie.Need-add-if1-2
-add-if1-2 c = search needs
-
-dle-hidden-length-requires : tie.Need-dle-hidden-length-requires
-dle-hidden-length-requires c κs = search needs
-
 add-total : tie.Need-add-total
 add-total c =
     let s = c .before .before .before .before in
     omega (arith, c .dle-hidden-length .ensures, hidden-short (s .args .header .now) (s .args .«data» .now) (s .pre))
-
-dle-hidden-length-requires-2 : tie.Need-dle-hidden-length-requires-2
-dle-hidden-length-requires-2 c κs = search needs
 
 add-total-2 : tie.Need-add-total-2
 add-total-2 c =
@@ -51,13 +36,5 @@ returns-2 c =
 pub has-room-spec : {M : Type 1} → statement M
 has-room-spec =
     tie.close
-    (tie.spec
-    add-if1
-    mul-if1
-    add-if1-2
-    dle-hidden-length-requires
-    add-total
-    dle-hidden-length-requires-2
-    add-total-2
-    returns
-    returns-2)
+    (tie.spec (λ c. search needs) (λ c. search needs) (λ c. search needs) (λ c κs. search needs) add-total (λ c κs. search needs) add-total-2
+    returns returns-2)

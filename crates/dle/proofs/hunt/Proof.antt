@@ -4,12 +4,6 @@ use mathlib.Core.Path.{refl}
 use Rattle.dle.proofs.hunt.Statement.{statement}
 use Rattle.dle.proofs.hunt.Tie as tie
 
-reopen-requires : tie.Need-reopen-requires
-reopen-requires c κs = search needs
-
-add-noise-requires : tie.Need-add-noise-requires
-add-noise-requires c κs = search needs
-
 returns : tie.Need-returns
 returns c =
     let a = c .before .before .args in
@@ -22,4 +16,4 @@ returns-2 c =
     rw (ne-eqb (a .byte) 0x10 (c .before .if1 .left), c .add-noise .ensures) (record { tells = refl; state = refl })
 
 pub hunt-spec : {M : Type 1} → statement M
-hunt-spec = tie.close (tie.spec reopen-requires add-noise-requires returns returns-2)
+hunt-spec = tie.close (tie.spec (λ c κs. search needs) (λ c κs. search needs) returns returns-2)

@@ -6,24 +6,6 @@ use Rattle.dle.proofs.Passing.{leads-start}
 use Rattle.dle.proofs.pass_start.Statement.{statement}
 use Rattle.dle.proofs.pass_start.Tie as tie
 
-add-if1 : tie.Need-add-if1
-add-if1 c = search needs
-
-shared-slice-read-if2 : tie.Need-shared-slice-read-if2
-shared-slice-read-if2 c = search needs
-
-add-if3 : tie.Need-add-if3
-add-if3 c = search needs
-
-shared-slice-read-if3 : tie.Need-shared-slice-read-if3
-shared-slice-read-if3 c = search needs
-
-reopen-requires : tie.Need-reopen-requires
-reopen-requires c κs = search needs
-
-add-t15 : tie.Need-add-t15
-add-t15 c = search needs
-
 returns : tie.Need-returns
 returns c store =
     let s = c .before .before .before .before .before .before .before in
@@ -45,14 +27,5 @@ returns-4 c store = let s = c .before .before in record { leads = leads-none lin
 pub pass-start-spec : {M : Type 1} → statement M
 pass-start-spec =
     tie.close
-    (tie.spec
-    add-if1
-    shared-slice-read-if2
-    add-if3
-    shared-slice-read-if3
-    reopen-requires
-    add-t15
-    returns
-    returns-2
-    returns-3
-    returns-4)
+    (tie.spec (λ c. search needs) (λ c. search needs) (λ c. search needs) (λ c. search needs) (λ c κs. search needs) (λ c. search needs) returns
+    returns-2 returns-3 returns-4)

@@ -41,9 +41,6 @@ marked c =
     let p = c .pass-start .ensures (a .store .now) in
     record { leads = leads-then link (a .piece .now) (noise (c .before) .0) (p .leads); count = p .count }
 
-pass-hunting-requires : tie.Need-pass-hunting-requires
-pass-hunting-requires c κs = search needs
-
 pass-start-requires : tie.Need-pass-start-requires
 pass-start-requires c κs = let n = noise c in (n .1, n .2, n .0 .within)
 
@@ -51,9 +48,6 @@ pass-bytes-requires : tie.Need-pass-bytes-requires
 pass-bytes-requires c κs =
     let p = marked (c .before .before .before .before) in
     (c .before .if1 .taken, p .count, c .before .before .before .before .before .before .before .before .pre .2, p .leads .within)
-
-same-length : tie.Need-same-length
-same-length c = search needs
 
 returns : tie.Need-returns
 returns c =
@@ -67,11 +61,4 @@ returns-2 c = marked (c .before .before .before)
 
 pub pass-to-frame-spec : {M : Type 1} → statement M
 pass-to-frame-spec =
-    tie.close
-    (tie.spec
-    pass-hunting-requires
-    pass-start-requires
-    pass-bytes-requires
-    same-length
-    returns
-    returns-2)
+    tie.close (tie.spec (λ c κs. search needs) pass-start-requires pass-bytes-requires (λ c. search needs) returns returns-2)

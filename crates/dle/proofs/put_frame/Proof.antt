@@ -53,23 +53,8 @@ module _ (c : tie.After-count-of2) where
   room : 2 + header .count-of .result + c .count-of2 .result + 2 ≤ length (start header .args .out .now)
   room = omega (arith, frame-length (start header .args .header .now) (start header .args .«data» .now), start header .pre, headed header .0, filled .0)
 
-put-mark-requires : tie.Need-put-mark-requires
-put-mark-requires c κs = search needs
-
-dle-hide-into-requires : tie.Need-dle-hide-into-requires
-dle-hide-into-requires c κs = search needs
-
-count-of-requires : tie.Need-count-of-requires
-count-of-requires c κs = search needs
-
 add-place : tie.Need-add-place
 add-place c = omega (arith, frame-length (start c .args .header .now) (start c .args .«data» .now), start c .pre, headed c .0)
-
-dle-hide-into-requires-2 : tie.Need-dle-hide-into-requires-2
-dle-hide-into-requires-2 c κs = search needs
-
-count-of-requires-2 : tie.Need-count-of-requires-2
-count-of-requires-2 c κs = search needs
 
 add-end : tie.Need-add-end
 add-end c = omega (arith, room c)
@@ -81,9 +66,6 @@ put-mark-requires-2 c κs =
 
 add-result : tie.Need-add-result
 add-result c = omega (arith, room (c .before .before .before .before))
-
-same-length : tie.Need-same-length
-same-length c = search needs
 
 returns : tie.Need-returns
 returns c =
@@ -99,15 +81,5 @@ returns c =
 pub put-frame-spec : {M : Type 1} → statement M
 put-frame-spec =
     tie.close
-    (tie.spec
-    put-mark-requires
-    dle-hide-into-requires
-    count-of-requires
-    add-place
-    dle-hide-into-requires-2
-    count-of-requires-2
-    add-end
-    put-mark-requires-2
-    add-result
-    same-length
-    returns)
+    (tie.spec (λ c κs. search needs) (λ c κs. search needs) (λ c κs. search needs) add-place (λ c κs. search needs) (λ c κs. search needs) add-end
+    put-mark-requires-2 add-result (λ c. search needs) returns)

@@ -8,17 +8,11 @@ use Rattle.dle.proofs.Steps.{hunting-keeps, half-keeps}
 use Rattle.dle.proofs.step.Statement.{statement}
 use Rattle.dle.proofs.step.Tie as tie
 
-hunt-requires : tie.Need-hunt-requires
-hunt-requires c κs = search needs
-
 returns : tie.Need-returns
 returns c =
     let a = c .before .before .before .args in
     let e = eq-eqb (a .state .mode) 0 (c .before .if1 .taken) in
     (rw e (c .hunt .ensures), rw e (hunting-keeps (a .store .now) (a .byte)))
-
-begin-requires : tie.Need-begin-requires
-begin-requires c κs = search needs
 
 returns-2 : tie.Need-returns-2
 returns-2 c =
@@ -26,15 +20,6 @@ returns-2 c =
     let n = ne-eqb (a .state .mode) 0 (c .before .before .if1 .left) in
     let e = eq-eqb (a .state .mode) 1 (c .before .if2 .taken) in
     (rw (n, e) (c .begin .ensures), rw (n, e) (half-keeps (a .store .now) (a .byte)))
-
-dle-after-requires : tie.Need-dle-after-requires
-dle-after-requires c κs = search needs
-
-act-on-requires : tie.Need-act-on-requires
-act-on-requires c κs = search needs
-
-same-length : tie.Need-same-length
-same-length c = search needs
 
 -- behind a DLE: `dle_after` tells the byte's meaning, and what `act_on` promises for all wire bytes is taken at the frame's own and this one
 returns-3 : tie.Need-returns-3
@@ -47,15 +32,6 @@ returns-3 c =
     let m = c .before .before .before .before .dle-after .ensures in
     let g = c .before .before .act-on .ensures in
     (rw (n, k, e, ← m) (g .0 wire), rw (n, k, e, ← m) (g .1 wire))
-
-dle-plain-requires : tie.Need-dle-plain-requires
-dle-plain-requires c κs = search needs
-
-act-on-requires-2 : tie.Need-act-on-requires-2
-act-on-requires-2 c κs = search needs
-
-same-length-2 : tie.Need-same-length-2
-same-length-2 c = search needs
 
 -- the same where no DLE waits, with the meaning that `dle_plain` tells
 returns-4 : tie.Need-returns-4
@@ -72,16 +48,5 @@ returns-4 c =
 pub step-spec : {M : Type 1} → statement M
 step-spec =
     tie.close
-    (tie.spec
-    hunt-requires
-    returns
-    begin-requires
-    returns-2
-    dle-after-requires
-    act-on-requires
-    same-length
-    returns-3
-    dle-plain-requires
-    act-on-requires-2
-    same-length-2
-    returns-4)
+    (tie.spec (λ c κs. search needs) returns (λ c κs. search needs) returns-2 (λ c κs. search needs) (λ c κs. search needs) (λ c. search needs)
+    returns-3 (λ c κs. search needs) (λ c κs. search needs) (λ c. search needs) returns-4)

@@ -7,18 +7,6 @@ use Rattle.dle.proofs.write.Tie as tie
 returns : tie.Need-returns
 returns c = rw (lt-leb 1 (length (c .before .before .before .args .«data» .now)) (c .if1 .taken))
 
-cast-t9 : tie.Need-cast-t9
-cast-t9 c = search needs
-
-slice-aggregate-send : tie.Need-slice-aggregate-send
-slice-aggregate-send c = search needs
-
-send-requires : tie.Need-send-requires
-send-requires c κs = search needs
-
-same-length : tie.Need-same-length
-same-length c = search needs
-
 returns-2 : tie.Need-returns-2
 returns-2 c =
     let n = length (c .before .before .before .before .before .before .before .before .before .args .«data» .now) in
@@ -31,5 +19,4 @@ returns-3 c =
 
 pub write-spec : {M : Type 1} → statement M
 write-spec =
-    tie.close
-    (tie.spec returns cast-t9 slice-aggregate-send send-requires same-length returns-2 returns-3)
+    tie.close (tie.spec returns (λ c. search needs) (λ c. search needs) (λ c κs. search needs) (λ c. search needs) returns-2 returns-3)

@@ -20,26 +20,8 @@ Inv-loop escapes wire from out₀ at most stop k₀ out k =
 abbrev μ-loop : tie.MeasureT-loop
 μ-loop escapes wire from out₀ at most stop k₀ out k = stop - k
 
-sub-least : tie.Need-sub-least Inv-loop μ-loop
-sub-least c = omega arith
-
-least-requires : tie.Need-least-requires Inv-loop μ-loop
-least-requires c κs = tt
-
 loop-holds : tie.Need-loop-holds Inv-loop μ-loop
 loop-holds c = (omega arith, c .least .ensures, refl, refl, omega arith)
-
-add-byte : tie.Need-add-byte Inv-loop μ-loop
-add-byte c = omega arith
-
-shared-slice-read-byte : tie.Need-shared-slice-read-byte Inv-loop μ-loop
-shared-slice-read-byte c = omega arith
-
-is-hidden-requires : tie.Need-is-hidden-requires Inv-loop μ-loop
-is-hidden-requires c κs = tt
-
-same-length : tie.Need-same-length Inv-loop μ-loop
-same-length c = omega arith
 
 -- `is_hidden` promises that the byte at k does not mean itself, so the count of those before it is k
 returns : tie.Need-returns Inv-loop μ-loop
@@ -51,18 +33,6 @@ returns c =
     let here = ap (hides (a .escapes)) (getD-drop (a .from) (a .wire .now) k 0) ∙ sym (c .before .is-hidden .ensures) ∙ c .if1 .taken in
     let m = before-mark (a .escapes .first) (a .escapes .escape) rest k (omega (arith, length-drop (a .from) (a .wire .now))) here in
     (omega (arith, l .loop .inv, m), l .loop .inv .3)
-
-add-out : tie.Need-add-out Inv-loop μ-loop
-add-out c = omega arith
-
-slice-write-out : tie.Need-slice-write-out Inv-loop μ-loop
-slice-write-out c = omega arith
-
-add-k : tie.Need-add-k Inv-loop μ-loop
-add-k c = omega arith
-
-loop-less : tie.Need-loop-less Inv-loop μ-loop
-loop-less c = omega arith
 
 loop-again : tie.Need-loop-again Inv-loop μ-loop
 loop-again c =
@@ -81,9 +51,6 @@ loop-again c =
       omega (arith, h .4, before-next (a .escapes .first) (a .escapes .escape) rest k less plain),
     )
 
-same-length-2 : tie.Need-same-length-2 Inv-loop μ-loop
-same-length-2 c = omega arith
-
 returns-2 : tie.Need-returns-2 Inv-loop μ-loop
 returns-2 c =
     let l = c .before in
@@ -94,21 +61,5 @@ returns-2 c =
 pub copy-plain-spec : {M : Type 1} → statement M
 copy-plain-spec =
     tie.close
-    (tie.spec
-    Inv-loop
-    μ-loop
-    sub-least
-    least-requires
-    loop-holds
-    add-byte
-    shared-slice-read-byte
-    is-hidden-requires
-    same-length
-    returns
-    add-out
-    slice-write-out
-    add-k
-    loop-less
-    loop-again
-    same-length-2
-    returns-2)
+    (tie.spec Inv-loop μ-loop (λ c. omega arith) (λ c κs. tt) loop-holds (λ c. omega arith) (λ c. omega arith) (λ c κs. tt) (λ c. omega arith)
+    returns (λ c. omega arith) (λ c. omega arith) (λ c. omega arith) (λ c. omega arith) loop-again (λ c. omega arith) returns-2)

@@ -6,16 +6,10 @@ use Rattle.escape.proofs.Form.{expansion-run}
 use Rattle.escape.proofs.expansion_hide_into.Statement.{statement}
 use Rattle.escape.proofs.expansion_hide_into.Tie as tie
 
-hide-by-requires : tie.Need-hide-by-requires
-hide-by-requires c κs = search needs
-
-same-length : tie.Need-same-length
-same-length c = search needs
-
 returns : tie.Need-returns
 returns c =
     let a = c .before .before .before .before .before .before .args in
     c .before .before .hide-by .ensures ∙ ap (λ run. storedAt (each run (a .bytes .now)) (a .out .now) (a .at)) expansion-run
 
 pub expansion-hide-into-spec : {M : Type 1} → statement M
-expansion-hide-into-spec = tie.close (tie.spec hide-by-requires same-length returns)
+expansion-hide-into-spec = tie.close (tie.spec (λ c κs. search needs) (λ c. search needs) returns)

@@ -6,12 +6,6 @@ use Rattle.escape.proofs.Form.{expansion-read}
 use Rattle.escape.proofs.expansion_unhide_into.Statement.{statement}
 use Rattle.escape.proofs.expansion_unhide_into.Tie as tie
 
-unhide-within-requires : tie.Need-unhide-within-requires
-unhide-within-requires c κs = search needs
-
-same-length : tie.Need-same-length
-same-length c = search needs
-
 returns : tie.Need-returns
 returns c =
     let u = c .before .before .unhide-within .ensures in
@@ -20,4 +14,4 @@ returns c =
     rw (sym same) u
 
 pub expansion-unhide-into-spec : {M : Type 1} → statement M
-expansion-unhide-into-spec = tie.close (tie.spec unhide-within-requires same-length returns)
+expansion-unhide-into-spec = tie.close (tie.spec (λ c κs. search needs) (λ c. search needs) returns)

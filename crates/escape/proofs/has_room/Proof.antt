@@ -12,12 +12,6 @@ use Rattle.escape.proofs.Form.{run-short}
 use Rattle.escape.proofs.has_room.Statement.{statement}
 use Rattle.escape.proofs.has_room.Tie as tie
 
-length-by-requires : tie.Need-length-by-requires
-length-by-requires c κs = search needs
-
-fits-requires : tie.Need-fits-requires
-fits-requires c κs = search needs
-
 -- no byte takes more than two
 returns : tie.Need-returns
 returns c =
@@ -32,4 +26,4 @@ returns-2 c =
     c .fits2 .ensures ∙ ap (λ (n : ℕ). leb (a .at + n) (a .memory)) (c .before .length-by .ensures)
 
 pub has-room-spec : {M : Type 1} → statement M
-has-room-spec = tie.close (tie.spec length-by-requires fits-requires returns returns-2)
+has-room-spec = tie.close (tie.spec (λ c κs. search needs) (λ c κs. search needs) returns returns-2)

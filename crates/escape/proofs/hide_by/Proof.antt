@@ -10,18 +10,12 @@ use Rattle.framing.proofs.Stored.{stored-done, stored-refused}
 use Rattle.escape.proofs.hide_by.Statement.{statement}
 use Rattle.escape.proofs.hide_by.Tie as tie
 
-has-room-requires : tie.Need-has-room-requires
-has-room-requires c κs = search needs
-
 put-bytes-requires : tie.Need-put-bytes-requires
 put-bytes-requires c κs =
     let r = c .before .before in
     let s = r .before .before .before in
     let a = s .args in
     (s .pre, leb-true (a .at + length (each (runOf (a .escapes)) (a .bytes .now))) (length (a .out .now)) (sym (r .has-room .ensures) ∙ c .before .if1 .taken))
-
-same-length : tie.Need-same-length
-same-length c = search needs
 
 returns : tie.Need-returns
 returns c =
@@ -40,4 +34,4 @@ returns-2 c =
 
 pub hide-by-spec : {M : Type 1} → statement M
 hide-by-spec =
-    tie.close (tie.spec has-room-requires put-bytes-requires same-length returns returns-2)
+    tie.close (tie.spec (λ c κs. search needs) put-bytes-requires (λ c. search needs) returns returns-2)

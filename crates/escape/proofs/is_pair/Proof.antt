@@ -3,21 +3,6 @@ use borrow.Author.Tests.{lt-ltb, le-ltb, eq-eqb, ne-eqb}
 use Rattle.escape.proofs.is_pair.Statement.{statement}
 use Rattle.escape.proofs.is_pair.Tie as tie
 
-add-if1 : tie.Need-add-if1
-add-if1 c = search needs
-
-shared-slice-read-if2 : tie.Need-shared-slice-read-if2
-shared-slice-read-if2 c = search needs
-
-add-is-code : tie.Need-add-is-code
-add-is-code c = search needs
-
-shared-slice-read-is-code : tie.Need-shared-slice-read-is-code
-shared-slice-read-is-code c = search needs
-
-is-code-requires : tie.Need-is-code-requires
-is-code-requires c κs = search needs
-
 returns : tie.Need-returns
 returns c = rw (lt-ltb _ _ (c .before .before .before .before .before .if1 .taken), eq-eqb _ _ (c .before .before .if2 .taken)) (c .is-code .ensures)
 
@@ -30,12 +15,4 @@ returns-3 c = rw (le-ltb _ _ (c .if1 .left))
 pub is-pair-spec : {M : Type 1} → statement M
 is-pair-spec =
     tie.close
-    (tie.spec
-    add-if1
-    shared-slice-read-if2
-    add-is-code
-    shared-slice-read-is-code
-    is-code-requires
-    returns
-    returns-2
-    returns-3)
+    (tie.spec (λ c. search needs) (λ c. search needs) (λ c. search needs) (λ c. search needs) (λ c κs. search needs) returns returns-2 returns-3)

@@ -21,12 +21,6 @@ abbrev μ-loop : tie.MeasureT-loop
 loop-holds : tie.Need-loop-holds Inv-loop μ-loop
 loop-holds c = (omega arith, omega arith)
 
-shared-slice-read-size-by : tie.Need-shared-slice-read-size-by Inv-loop μ-loop
-shared-slice-read-size-by c = omega arith
-
-size-by-requires : tie.Need-size-by-requires Inv-loop μ-loop
-size-by-requires c κs = search needs
-
 -- a byte takes two wire bytes at most, and a slice is short enough for twice its length to be a usize
 add-n : tie.Need-add-n Inv-loop μ-loop
 add-n c =
@@ -37,12 +31,6 @@ add-n c =
     let i = l .loop .i in
     let e = each-length run bytes i (c .before .before .loop-test .taken) in
     omega (arith, e, c .size-by .ensures, l .loop .inv .1, each-short run (run-short (a .escapes)) bytes, l .before .before .good .1 .0 .1)
-
-add-i : tie.Need-add-i Inv-loop μ-loop
-add-i c = omega arith
-
-loop-less : tie.Need-loop-less Inv-loop μ-loop
-loop-less c = omega arith
 
 loop-again : tie.Need-loop-again Inv-loop μ-loop
 loop-again c =
@@ -63,14 +51,4 @@ returns c =
 pub length-by-spec : {M : Type 1} → statement M
 length-by-spec =
     tie.close
-    (tie.spec
-    Inv-loop
-    μ-loop
-    loop-holds
-    shared-slice-read-size-by
-    size-by-requires
-    add-n
-    add-i
-    loop-less
-    loop-again
-    returns)
+    (tie.spec Inv-loop μ-loop loop-holds (λ c. omega arith) (λ c κs. search needs) add-n (λ c. omega arith) (λ c. omega arith) loop-again returns)

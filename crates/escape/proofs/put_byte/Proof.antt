@@ -9,9 +9,6 @@ use Rattle.runs.proofs.Cases.{and-both}
 use Rattle.escape.proofs.put_byte.Statement.{statement}
 use Rattle.escape.proofs.put_byte.Tie as tie
 
-is-hidden-requires : tie.Need-is-hidden-requires
-is-hidden-requires c κs = search needs
-
 -- `is_hidden` promises that the byte takes two wire bytes, for which the caller promises room
 slice-write-out : tie.Need-slice-write-out
 slice-write-out c =
@@ -26,9 +23,6 @@ sub-out c =
     let t = and-both (leb (a .escapes .first) (a .byte)) (leb (a .byte) (a .escapes .escape)) h in
     omega (arith, leb-true (a .byte) (a .escapes .escape) (t .1))
 
-add-out : tie.Need-add-out
-add-out c = search needs
-
 slice-write-out-2 : tie.Need-slice-write-out-2
 slice-write-out-2 c =
     let p = simp (sym (c .before .before .is-hidden .ensures) ∙ c .before .if1 .taken) at (c .before .before .before .before .pre .1) in
@@ -39,16 +33,10 @@ slice-write-out-3 c =
     let p = simp (sym (c .before .is-hidden .ensures) ∙ c .if1 .left) at (c .before .before .before .pre .1) in
     omega arith
 
-same-length : tie.Need-same-length
-same-length c = search needs
-
 returns : tie.Need-returns
 returns c =
     let t = sym (c .before .before .is-hidden .ensures) ∙ c .before .if1 .taken in
     (simp t, simp (t, add-one))
-
-same-length-2 : tie.Need-same-length-2
-same-length-2 c = search needs
 
 returns-2 : tie.Need-returns-2
 returns-2 c = let t = sym (c .before .is-hidden .ensures) ∙ c .if1 .left in (simp t, simp t)
@@ -56,14 +44,5 @@ returns-2 c = let t = sym (c .before .is-hidden .ensures) ∙ c .if1 .left in (s
 pub put-byte-spec : {M : Type 1} → statement M
 put-byte-spec =
     tie.close
-    (tie.spec
-    is-hidden-requires
-    slice-write-out
-    sub-out
-    add-out
-    slice-write-out-2
-    slice-write-out-3
-    same-length
-    returns
-    same-length-2
-    returns-2)
+    (tie.spec (λ c κs. search needs) slice-write-out sub-out (λ c. search needs) slice-write-out-2 slice-write-out-3 (λ c. search needs) returns
+    (λ c. search needs) returns-2)

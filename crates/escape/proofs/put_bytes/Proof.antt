@@ -20,12 +20,6 @@ abbrev μ-loop : tie.MeasureT-loop
 loop-holds : tie.Need-loop-holds Inv-loop μ-loop
 loop-holds c = (omega arith, run-start (c .before .before .pre .1) refl)
 
-shared-slice-read-put-byte : tie.Need-shared-slice-read-put-byte Inv-loop μ-loop
-shared-slice-read-put-byte c = omega arith
-
-add-put-byte : tie.Need-add-put-byte Inv-loop μ-loop
-add-put-byte c = omega arith
-
 put-byte-requires : tie.Need-put-byte-requires Inv-loop μ-loop
 put-byte-requires c κs =
     let l = c .before .before .before in
@@ -39,12 +33,6 @@ add-n c =
     let a = l .before .before .before .args in
     let e = each-length (runOf (a .escapes)) (a .bytes .now) (l .loop .i) (c .before .before .before .before .before .loop-test .taken) in
     omega (arith, e, l .loop .inv .1, c .before .before .put-byte .ensures .0)
-
-add-i : tie.Need-add-i Inv-loop μ-loop
-add-i c = omega arith
-
-loop-less : tie.Need-loop-less Inv-loop μ-loop
-loop-less c = omega arith
 
 -- `put_byte` promises that the wire bytes of byte i are stored and how many they are: one part more of the run
 loop-again : tie.Need-loop-again Inv-loop μ-loop
@@ -71,16 +59,5 @@ returns c =
 pub put-bytes-spec : {M : Type 1} → statement M
 put-bytes-spec =
     tie.close
-    (tie.spec
-    Inv-loop
-    μ-loop
-    loop-holds
-    shared-slice-read-put-byte
-    add-put-byte
-    put-byte-requires
-    add-n
-    add-i
-    loop-less
-    loop-again
-    same-length
-    returns)
+    (tie.spec Inv-loop μ-loop loop-holds (λ c. omega arith) (λ c. omega arith) put-byte-requires add-n (λ c. omega arith) (λ c. omega arith)
+    loop-again same-length returns)

@@ -3,9 +3,6 @@ use mathlib.Core.Path.{sym, _∙_}
 use Rattle.escape.proofs.size_by.Statement.{statement}
 use Rattle.escape.proofs.size_by.Tie as tie
 
-is-hidden-requires : tie.Need-is-hidden-requires
-is-hidden-requires c κs = search needs
-
 returns : tie.Need-returns
 returns c = simp (sym (c .before .is-hidden .ensures) ∙ c .if1 .taken)
 
@@ -13,4 +10,4 @@ returns-2 : tie.Need-returns-2
 returns-2 c = simp (sym (c .before .is-hidden .ensures) ∙ c .if1 .left)
 
 pub size-by-spec : {M : Type 1} → statement M
-size-by-spec = tie.close (tie.spec is-hidden-requires returns returns-2)
+size-by-spec = tie.close (tie.spec (λ c κs. search needs) returns returns-2)

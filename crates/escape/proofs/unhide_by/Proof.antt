@@ -34,20 +34,8 @@ copied c =
 loop-holds : tie.Need-loop-holds Inv-loop μ-loop
 loop-holds c = let s = c .before .before in reading-start (s .args .escapes) (s .args .wire .now) (s .args .out .now) (s .args .at) (s .args .most) (s .pre .1)
 
-add-copy-plain : tie.Need-add-copy-plain Inv-loop μ-loop
-add-copy-plain c = omega arith
-
-sub-copy-plain : tie.Need-sub-copy-plain Inv-loop μ-loop
-sub-copy-plain c = omega arith
-
 copy-plain-requires : tie.Need-copy-plain-requires Inv-loop μ-loop
 copy-plain-requires c κs = let g = c .before .loop .inv in (g .there, omega (arith, g .some, g .stored .long))
-
-add-count : tie.Need-add-count Inv-loop μ-loop
-add-count c = omega arith
-
-add-i : tie.Need-add-i Inv-loop μ-loop
-add-i c = omega arith
 
 same-length : tie.Need-same-length Inv-loop μ-loop
 same-length c = let f = c .before .before .before in copied f .stored .long
@@ -82,9 +70,6 @@ returns-2 c =
     reading-end (a .escapes) (a .wire .now) (a .out .now) (a .at) (a .most) _ _ _ g
     (stops (a .escapes) _ (a .wire .now) (i + n) (g .there) (run-over (a .escapes) (a .wire .now) (a .out .now) (a .at) (a .most) i n all) (sym (c .before .is-pair .ensures) ∙ c .if2 .left))
 
-add-out : tie.Need-add-out Inv-loop μ-loop
-add-out c = omega arith
-
 shared-slice-read-out : tie.Need-shared-slice-read-out Inv-loop μ-loop
 shared-slice-read-out c =
     let f = c .before .before .before .before .before .before in
@@ -98,18 +83,6 @@ sub-out c =
     let l = f .before .before in
     let a = l .before .before .before .args in
     pair-top (a .escapes) (a .wire .now) (l .loop .i + f .copy-plain .result) (sym (c .before .before .before .is-pair .ensures) ∙ c .before .before .if2 .taken)
-
-add-out-2 : tie.Need-add-out-2 Inv-loop μ-loop
-add-out-2 c = omega arith
-
-slice-write-out : tie.Need-slice-write-out Inv-loop μ-loop
-slice-write-out c = omega arith
-
-add-count-2 : tie.Need-add-count-2 Inv-loop μ-loop
-add-count-2 c = omega arith
-
-add-i-2 : tie.Need-add-i-2 Inv-loop μ-loop
-add-i-2 c = omega arith
 
 loop-less : tie.Need-loop-less Inv-loop μ-loop
 loop-less c =
@@ -130,26 +103,6 @@ loop-again c =
 pub unhide-by-spec : {M : Type 1} → statement M
 unhide-by-spec =
     tie.close
-    (tie.spec
-    Inv-loop
-    μ-loop
-    loop-holds
-    add-copy-plain
-    sub-copy-plain
-    copy-plain-requires
-    add-count
-    add-i
-    same-length
-    returns
-    is-pair-requires
-    add-out
-    shared-slice-read-out
-    sub-out
-    add-out-2
-    slice-write-out
-    add-count-2
-    add-i-2
-    loop-less
-    loop-again
-    same-length-2
-    returns-2)
+    (tie.spec Inv-loop μ-loop loop-holds (λ c. omega arith) (λ c. omega arith) copy-plain-requires (λ c. omega arith) (λ c. omega arith) same-length
+    returns is-pair-requires (λ c. omega arith) shared-slice-read-out sub-out (λ c. omega arith) (λ c. omega arith) (λ c. omega arith)
+    (λ c. omega arith) loop-less loop-again same-length-2 returns-2)

@@ -7,18 +7,6 @@ use Rattle.escape.specs.Form.{unhideBy}
 use Rattle.escape.proofs.unhide_within.Statement.{statement}
 use Rattle.escape.proofs.unhide_within.Tie as tie
 
-sub-least : tie.Need-sub-least
-sub-least c = search needs
-
-least-requires : tie.Need-least-requires
-least-requires c κs = search needs
-
-unhide-by-requires : tie.Need-unhide-by-requires
-unhide-by-requires c κs = search needs
-
-same-length : tie.Need-same-length
-same-length c = search needs
-
 returns : tie.Need-returns
 returns c = rw (sym (c .before .before .before .before .least .ensures)) (c .before .before .unhide-by .ensures)
 
@@ -31,4 +19,4 @@ returns-2 c =
 
 pub unhide-within-spec : {M : Type 1} → statement M
 unhide-within-spec =
-    tie.close (tie.spec sub-least least-requires unhide-by-requires same-length returns returns-2)
+    tie.close (tie.spec (λ c. search needs) (λ c κs. search needs) (λ c κs. search needs) (λ c. search needs) returns returns-2)

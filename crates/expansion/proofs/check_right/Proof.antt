@@ -8,17 +8,8 @@ use borrow.Author.Needs.{needs}
 use Rattle.expansion.proofs.check_right.Statement.{statement}
 use Rattle.expansion.proofs.check_right.Tie as tie
 
-sub-end : tie.Need-sub-end
-sub-end c = search needs
-
-number-at-requires : tie.Need-number-at-requires
-number-at-requires c κs = search needs
-
 slice-aggregate-crc32 : tie.Need-slice-aggregate-crc32
 slice-aggregate-crc32 c = sym (length-take-le _ _ (omega arith))
-
-crc32-requires : tie.Need-crc32-requires
-crc32-requires c κs = search needs
 
 returns : tie.Need-returns
 returns c =
@@ -29,4 +20,4 @@ returns c =
 
 pub check-right-spec : {M : Type 1} → statement M
 check-right-spec =
-    tie.close (tie.spec sub-end number-at-requires slice-aggregate-crc32 crc32-requires returns)
+    tie.close (tie.spec (λ c. search needs) (λ c κs. search needs) slice-aggregate-crc32 (λ c κs. search needs) returns)

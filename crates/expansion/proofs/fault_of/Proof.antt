@@ -9,22 +9,10 @@ returns : tie.Need-returns
 unfolding faultOf
 returns c = rw (lt-ltb _ 8 (c .if1 .taken))
 
-check-right-requires : tie.Need-check-right-requires
-check-right-requires c κs = search needs
-
 -- each test made so far, by the promise of the call it asks, says which way `faultOf` goes there; so for all that follow
 returns-2 : tie.Need-returns-2
 unfolding faultOf
 returns-2 c = rw (le-ltb _ 8 (c .before .before .if1 .left), sym (c .before .check-right .ensures) ∙ not-true _ (c .if2 .taken))
-
-shared-slice-read-fields-ok : tie.Need-shared-slice-read-fields-ok
-shared-slice-read-fields-ok c = search needs
-
-shared-slice-read-fields-ok-2 : tie.Need-shared-slice-read-fields-ok-2
-shared-slice-read-fields-ok-2 c = search needs
-
-fields-ok-requires : tie.Need-fields-ok-requires
-fields-ok-requires c κs = search needs
 
 returns-3 : tie.Need-returns-3
 unfolding faultOf
@@ -40,13 +28,4 @@ returns-4 c =
 
 pub fault-of-spec : {M : Type 1} → statement M
 fault-of-spec =
-    tie.close
-    (tie.spec
-    returns
-    check-right-requires
-    returns-2
-    shared-slice-read-fields-ok
-    shared-slice-read-fields-ok-2
-    fields-ok-requires
-    returns-3
-    returns-4)
+    tie.close (tie.spec returns (λ c κs. search needs) returns-2 (λ c. search needs) (λ c. search needs) (λ c κs. search needs) returns-3 returns-4)

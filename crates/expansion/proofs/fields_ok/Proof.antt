@@ -3,9 +3,6 @@ use borrow.Author.Needs.{needs}
 use Rattle.expansion.proofs.fields_ok.Statement.{statement}
 use Rattle.expansion.proofs.fields_ok.Tie as tie
 
-kind-ok-requires : tie.Need-kind-ok-requires
-kind-ok-requires c κs = search needs
-
 returns : tie.Need-returns
 returns c = simp (sym (c .before .kind-ok .ensures) ∙ c .if1 .taken)
 
@@ -13,4 +10,4 @@ returns-2 : tie.Need-returns-2
 returns-2 c = rw (sym (c .before .kind-ok .ensures) ∙ c .if1 .left) (c .if1 .left)
 
 pub fields-ok-spec : {M : Type 1} → statement M
-fields-ok-spec = tie.close (tie.spec kind-ok-requires returns returns-2)
+fields-ok-spec = tie.close (tie.spec (λ c κs. search needs) returns returns-2)

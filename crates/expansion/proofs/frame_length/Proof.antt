@@ -4,15 +4,6 @@ use borrow.Author.Needs.{needs}
 use Rattle.expansion.proofs.frame_length.Statement.{statement}
 use Rattle.expansion.proofs.frame_length.Tie as tie
 
-expansion-hidden-length-requires : tie.Need-expansion-hidden-length-requires
-expansion-hidden-length-requires c κs = search needs
-
-expansion-hidden-length-requires-2 : tie.Need-expansion-hidden-length-requires-2
-expansion-hidden-length-requires-2 c κs = search needs
-
-expansion-hidden-length-requires-3 : tie.Need-expansion-hidden-length-requires-3
-expansion-hidden-length-requires-3 c κs = search needs
-
 -- by `parts-short` the whole is 2066 bytes at most, so no sum on the way leaves its type
 add-result : tie.Need-add-result
 add-result c =
@@ -60,12 +51,4 @@ returns c =
 
 pub frame-length-spec : {M : Type 1} → statement M
 frame-length-spec =
-    tie.close
-    (tie.spec
-    expansion-hidden-length-requires
-    expansion-hidden-length-requires-2
-    expansion-hidden-length-requires-3
-    add-result
-    add-result-2
-    add-result-3
-    returns)
+    tie.close (tie.spec (λ c κs. search needs) (λ c κs. search needs) (λ c κs. search needs) add-result add-result-2 add-result-3 returns)

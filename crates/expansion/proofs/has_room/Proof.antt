@@ -18,9 +18,6 @@ total c =
     let a = c .args in
     omega (arith, c .pre, length-append (a .header .now) (a .«data» .now ++ a .trailer .now), length-append (a .«data» .now) (a .trailer .now))
 
-add-if1 : tie.Need-add-if1
-add-if1 c = search needs
-
 add-if1-2 : tie.Need-add-if1-2
 add-if1-2 c = omega (arith, total (c .before .before .before))
 
@@ -29,9 +26,6 @@ mul-if1 c = omega (arith, total (c .before .before .before))
 
 add-if1-3 : tie.Need-add-if1-3
 add-if1-3 c = omega (arith, total (c .before .before .before))
-
-frame-length-requires : tie.Need-frame-length-requires
-frame-length-requires c κs = search needs
 
 returns : tie.Need-returns
 returns c =
@@ -44,5 +38,4 @@ returns-2 c = ap (λ (n : ℕ). leb n (c .before .before .before .before .before
 
 pub has-room-spec : {M : Type 1} → statement M
 has-room-spec =
-    tie.close
-    (tie.spec add-if1 add-if1-2 mul-if1 add-if1-3 frame-length-requires returns returns-2)
+    tie.close (tie.spec (λ c. search needs) add-if1-2 mul-if1 add-if1-3 (λ c κs. search needs) returns returns-2)

@@ -5,12 +5,6 @@ use borrow.Author.Needs.{needs}
 use Rattle.expansion.proofs.hunt.Statement.{statement}
 use Rattle.expansion.proofs.hunt.Tie as tie
 
-reopen-requires : tie.Need-reopen-requires
-reopen-requires c κs = search needs
-
-add-noise-requires : tie.Need-add-noise-requires
-add-noise-requires c κs = search needs
-
 returns : tie.Need-returns
 returns c =
     let t = eq-eqb _ _ (c .before .if1 .taken) in
@@ -23,4 +17,4 @@ returns-2 c =
     λ store. record { tells = simp t; state = simp (t, c .add-noise .ensures); stored = simp t }
 
 pub hunt-spec : {M : Type 1} → statement M
-hunt-spec = tie.close (tie.spec reopen-requires add-noise-requires returns returns-2)
+hunt-spec = tie.close (tie.spec (λ c κs. search needs) (λ c κs. search needs) returns returns-2)

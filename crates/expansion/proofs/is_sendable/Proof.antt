@@ -4,9 +4,6 @@ use borrow.Author.Needs.{needs}
 use Rattle.expansion.proofs.is_sendable.Statement.{statement}
 use Rattle.expansion.proofs.is_sendable.Tie as tie
 
-fields-ok-requires : tie.Need-fields-ok-requires
-fields-ok-requires c κs = search needs
-
 returns : tie.Need-returns
 returns c = rw (← and-assoc, sym (c .before .fields-ok .ensures) ∙ c .if1 .taken)
 
@@ -14,4 +11,4 @@ returns-2 : tie.Need-returns-2
 returns-2 c = rw (← and-assoc, sym (c .before .fields-ok .ensures) ∙ c .if1 .left) (c .if1 .left)
 
 pub is-sendable-spec : {M : Type 1} → statement M
-is-sendable-spec = tie.close (tie.spec fields-ok-requires returns returns-2)
+is-sendable-spec = tie.close (tie.spec (λ c κs. search needs) returns returns-2)

@@ -3,12 +3,6 @@ use borrow.Author.Needs.{needs}
 use Rattle.expansion.proofs.meaning_in.Statement.{statement}
 use Rattle.expansion.proofs.meaning_in.Tie as tie
 
-expansion-after-requires : tie.Need-expansion-after-requires
-expansion-after-requires c κs = search needs
-
-expansion-plain-requires : tie.Need-expansion-plain-requires
-expansion-plain-requires c κs = search needs
-
 returns : tie.Need-returns
 returns c = simp (eq-eqb _ _ (c .before .if1 .taken)) (c .expansion-after .ensures)
 
@@ -17,4 +11,4 @@ returns-2 c = simp (ne-eqb _ _ (c .before .if1 .left)) (c .expansion-plain .ensu
 
 pub meaning-in-spec : {M : Type 1} → statement M
 meaning-in-spec =
-    tie.close (tie.spec expansion-after-requires expansion-plain-requires returns returns-2)
+    tie.close (tie.spec (λ c κs. search needs) (λ c κs. search needs) returns returns-2)

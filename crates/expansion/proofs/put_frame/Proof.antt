@@ -98,32 +98,11 @@ module _ (c : tie.After-count-of3) where
       (ap (λ (n : ℕ). 1 + n) (headed h .0)) (headed h .1) place (fills body .expansion-hide-into2 .last .1 .0) (ap (λ (n : ℕ). p + n) (filled body .0)) (filled body .1)
       (place + c .count-of3 .result) (checks .expansion-hide-into3 .last .1 .0) (ap (λ (n : ℕ). place + n) (checked .0)) (checked .1)
 
-slice-write-out : tie.Need-slice-write-out
-slice-write-out c = search needs
-
-expansion-hide-into-requires : tie.Need-expansion-hide-into-requires
-expansion-hide-into-requires c κs = search needs
-
-count-of-requires : tie.Need-count-of-requires
-count-of-requires c κs = search needs
-
 add-a : tie.Need-add-a
 add-a c = omega (arith, after-header c .left, after-header c .fits)
 
-expansion-hide-into-requires-2 : tie.Need-expansion-hide-into-requires-2
-expansion-hide-into-requires-2 c κs = search needs
-
-count-of-requires-2 : tie.Need-count-of-requires-2
-count-of-requires-2 c κs = search needs
-
 add-b : tie.Need-add-b
 add-b c = omega (arith, after-data c .left, after-data c .fits)
-
-expansion-hide-into-requires-3 : tie.Need-expansion-hide-into-requires-3
-expansion-hide-into-requires-3 c κs = search needs
-
-count-of-requires-3 : tie.Need-count-of-requires-3
-count-of-requires-3 c κs = search needs
 
 add-c : tie.Need-add-c
 add-c c = omega (arith, after-check c .left, after-check c .fits)
@@ -152,18 +131,5 @@ returns c =
 pub put-frame-spec : {M : Type 1} → statement M
 put-frame-spec =
     tie.close
-    (tie.spec
-    slice-write-out
-    expansion-hide-into-requires
-    count-of-requires
-    add-a
-    expansion-hide-into-requires-2
-    count-of-requires-2
-    add-b
-    expansion-hide-into-requires-3
-    count-of-requires-3
-    add-c
-    slice-write-out-2
-    add-result
-    same-length
-    returns)
+    (tie.spec (λ c. search needs) (λ c κs. search needs) (λ c κs. search needs) add-a (λ c κs. search needs) (λ c κs. search needs) add-b
+    (λ c κs. search needs) (λ c κs. search needs) add-c slice-write-out-2 add-result same-length returns)

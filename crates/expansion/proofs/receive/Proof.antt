@@ -5,16 +5,10 @@ use borrow.Author.Needs.{needs}
 use Rattle.expansion.proofs.receive.Statement.{statement}
 use Rattle.expansion.proofs.receive.Tie as tie
 
-is-known-requires : tie.Need-is-known-requires
-is-known-requires c κs = search needs
-
 scan-requires : tie.Need-scan-requires
 scan-requires c κs =
     let v = c .before .before .before in
     record { count = known-count 3 1 1032 (v .before .before .before .args .state) (sym (v .is-known .ensures) ∙ c .before .before .if1 .taken); room = c .before .if2 .taken }
-
-same-length : tie.Need-same-length
-same-length c = search needs
 
 returns : tie.Need-returns
 returns c =
@@ -29,4 +23,4 @@ returns-3 c = simp (sym (c .before .is-known .ensures) ∙ c .if1 .left)
 
 pub receive-spec : {M : Type 1} → statement M
 receive-spec =
-    tie.close (tie.spec is-known-requires scan-requires same-length returns returns-2 returns-3)
+    tie.close (tie.spec (λ c κs. search needs) scan-requires (λ c. search needs) returns returns-2 returns-3)

@@ -10,24 +10,6 @@ use Rattle.framing.specs.State.{afterNoise}
 use Rattle.framing.proofs.pass_hunting.Statement.{statement}
 use Rattle.framing.proofs.pass_hunting.Tie as tie
 
-sub-count-before : tie.Need-sub-count-before
-sub-count-before c = search needs
-
-part-count-before-start : tie.Need-part-count-before-start
-part-count-before-start c = search needs
-
-part-count-before-end : tie.Need-part-count-before-end
-part-count-before-end c = search needs
-
-count-before-requires : tie.Need-count-before-requires
-count-before-requires c κs = search needs
-
-pass-noise-requires : tie.Need-pass-noise-requires
-pass-noise-requires c κs = search needs
-
-add-t10 : tie.Need-add-t10
-add-t10 c = search needs
-
 returns : tie.Need-returns
 returns c =
     let a = c .before .before .before .before .before .args in
@@ -50,12 +32,5 @@ returns-2 c =
 pub pass-hunting-spec : {M : Type 1} → statement M
 pass-hunting-spec =
     tie.close
-    (tie.spec
-    sub-count-before
-    part-count-before-start
-    part-count-before-end
-    count-before-requires
-    pass-noise-requires
-    add-t10
-    returns
+    (tie.spec (λ c. search needs) (λ c. search needs) (λ c. search needs) (λ c κs. search needs) (λ c κs. search needs) (λ c. search needs) returns
     returns-2)

@@ -4,12 +4,6 @@ use Rattle.framing.proofs.States.{round-add}
 use Rattle.framing.proofs.pass_noise.Statement.{statement}
 use Rattle.framing.proofs.pass_noise.Tie as tie
 
-cast-add-noise : tie.Need-cast-add-noise
-cast-add-noise c = search needs
-
-add-noise-requires : tie.Need-add-noise-requires
-add-noise-requires c κs = search needs
-
 returns : tie.Need-returns
 returns c = simp (eq-eqb _ _ (c .if1 .taken))
 
@@ -19,4 +13,4 @@ returns-2 c =
     simp (ne-eqb _ _ (c .before .if1 .left), c .add-noise .ensures, round-add (a .state .noise) (a .bytes))
 
 pub pass-noise-spec : {M : Type 1} → statement M
-pass-noise-spec = tie.close (tie.spec cast-add-noise add-noise-requires returns returns-2)
+pass-noise-spec = tie.close (tie.spec (λ c. search needs) (λ c κs. search needs) returns returns-2)

@@ -9,18 +9,6 @@ use borrow.Author.Needs.{needs}
 use Rattle.lister.proofs.read_link.Statement.{statement}
 use Rattle.lister.proofs.read_link.Tie as tie
 
-shared-slice-read-link : tie.Need-shared-slice-read-link
-shared-slice-read-link c = search needs
-
-link-requires : tie.Need-link-requires
-link-requires c κs = search needs
-
-count-of-requires : tie.Need-count-of-requires
-count-of-requires c κs = search needs
-
-same-length : tie.Need-same-length
-same-length c = search needs
-
 returns : tie.Need-returns
 returns c =
     let a = c .before .before .before .before .before .before .before .before .before .before .args in
@@ -35,38 +23,11 @@ fits c =
     let a = c .before .before .before .before .before .before .before .before .before .before .args in
     first-fits (Text.link (getD (now (a .piece)) 0 0)) (now (a .text)) (now (a .piece)) (unlisted (now (a .piece)) (now (a .piece))) (c .before .before .before .before .link .ensures) (c .before .count-of .ensures) (c .if1 .left) .1
 
-sub-read-wire : tie.Need-sub-read-wire
-sub-read-wire c = search needs
-
-part-read-wire-start : tie.Need-part-read-wire-start
-part-read-wire-start c = search needs
-
-part-read-wire-end : tie.Need-part-read-wire-end
-part-read-wire-end c = search needs
-
 sub-read-wire-2 : tie.Need-sub-read-wire-2
 sub-read-wire-2 c = omega (arith, fits (c .before .before), c .before .before .before .before .before .before .link .kept .1 .0)
 
 part-read-wire-start-2 : tie.Need-part-read-wire-start-2
 part-read-wire-start-2 c = omega (arith, fits (c .before .before), c .before .before .before .before .before .before .link .kept .1 .0)
-
-part-read-wire-end-2 : tie.Need-part-read-wire-end-2
-part-read-wire-end-2 c = search needs
-
-read-wire-requires : tie.Need-read-wire-requires
-read-wire-requires c κs = search needs
-
-add-t18 : tie.Need-add-t18
-add-t18 c = search needs
-
-add-t22 : tie.Need-add-t22
-add-t22 c = search needs
-
-same-length-2 : tie.Need-same-length-2
-same-length-2 c = search needs
-
-same-length-3 : tie.Need-same-length-3
-same-length-3 c = search needs
 
 returns-2 : tie.Need-returns-2
 returns-2 c =
@@ -80,21 +41,6 @@ returns-2 c =
 pub read-link-spec : {M : Type 1} → statement M
 read-link-spec =
     tie.close
-    (tie.spec
-    shared-slice-read-link
-    link-requires
-    count-of-requires
-    same-length
-    returns
-    sub-read-wire
-    part-read-wire-start
-    part-read-wire-end
-    sub-read-wire-2
-    part-read-wire-start-2
-    part-read-wire-end-2
-    read-wire-requires
-    add-t18
-    add-t22
-    same-length-2
-    same-length-3
-    returns-2)
+    (tie.spec (λ c. search needs) (λ c κs. search needs) (λ c κs. search needs) (λ c. search needs) returns (λ c. search needs) (λ c. search needs)
+    (λ c. search needs) sub-read-wire-2 part-read-wire-start-2 (λ c. search needs) (λ c κs. search needs) (λ c. search needs) (λ c. search needs)
+    (λ c. search needs) (λ c. search needs) returns-2)

@@ -7,15 +7,6 @@ use borrow.Author.Needs.{needs}
 use Rattle.lister.proofs.refuse_letter.Statement.{statement}
 use Rattle.lister.proofs.refuse_letter.Tie as tie
 
-refused-requires : tie.Need-refused-requires
-refused-requires c κs = search needs
-
-count-of-requires : tie.Need-count-of-requires
-count-of-requires c κs = search needs
-
-same-length : tie.Need-same-length
-same-length c = search needs
-
 returns : tie.Need-returns
 returns c =
     let a = c .before .before .before .before .before .before .before .before .args in
@@ -23,9 +14,6 @@ returns c =
       λ store. refused-none store (now (a .piece)) (now (a .text)) (pre .0) (pre .1) (c .before .before .before .before .refused .ensures) (c .before .count-of .ensures) (c .if1 .taken),
       (omega arith, omega arith),
     )
-
-same-length-2 : tie.Need-same-length-2
-same-length-2 c = search needs
 
 returns-2 : tie.Need-returns-2
 returns-2 c =
@@ -38,4 +26,4 @@ returns-2 c =
     )
 
 pub refuse-letter-spec : {M : Type 1} → statement M
-refuse-letter-spec = tie.close (tie.spec refused-requires count-of-requires same-length returns same-length-2 returns-2)
+refuse-letter-spec = tie.close (tie.spec (λ c κs. search needs) (λ c κs. search needs) (λ c. search needs) returns (λ c. search needs) returns-2)

@@ -4,14 +4,8 @@ use borrow.Author.Needs.{needs}
 use Rattle.mdu.proofs.receive.Statement.{statement}
 use Rattle.mdu.proofs.receive.Tie as tie
 
-is-known-requires : tie.Need-is-known-requires
-is-known-requires c κs = search needs
-
 scan-requires : tie.Need-scan-requires
 scan-requires c κs = (sym (c .before .before .before .is-known .ensures) ∙ c .before .before .if1 .taken, c .before .if2 .taken)
-
-same-length : tie.Need-same-length
-same-length c = search needs
 
 returns : tie.Need-returns
 returns c =
@@ -26,4 +20,4 @@ returns-3 c = simp (sym (c .before .is-known .ensures) ∙ c .if1 .left)
 
 pub receive-spec : {M : Type 1} → statement M
 receive-spec =
-    tie.close (tie.spec is-known-requires scan-requires same-length returns returns-2 returns-3)
+    tie.close (tie.spec (λ c κs. search needs) scan-requires (λ c. search needs) returns returns-2 returns-3)

@@ -12,17 +12,8 @@ use Rattle.mdu.proofs.write.Tie as tie
 returns : tie.Need-returns
 returns c = simp (lt-leb 1 _ (c .if1 .taken))
 
-length-ok-requires : tie.Need-length-ok-requires
-length-ok-requires c κs = search needs
-
-add-end : tie.Need-add-end
-add-end c = search needs
-
 put-frame-requires : tie.Need-put-frame-requires
 put-frame-requires c κs = (length-most _ (sym (c .before .before .before .length-ok .ensures) ∙ c .before .before .if2 .taken), c .before .if3 .taken)
-
-same-length : tie.Need-same-length
-same-length c = search needs
 
 returns-2 : tie.Need-returns-2
 returns-2 c =
@@ -46,13 +37,4 @@ returns-4 c = simp (le-leb 1 _ (c .before .before .if1 .left), sym (c .before .l
 
 pub write-spec : {M : Type 1} → statement M
 write-spec =
-    tie.close
-    (tie.spec
-    returns
-    length-ok-requires
-    add-end
-    put-frame-requires
-    same-length
-    returns-2
-    returns-3
-    returns-4)
+    tie.close (tie.spec returns (λ c κs. search needs) (λ c. search needs) put-frame-requires (λ c. search needs) returns-2 returns-3 returns-4)

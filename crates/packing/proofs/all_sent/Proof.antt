@@ -27,18 +27,6 @@ next c = sym (ap allSent (drop-next (c .before .before .before .args .p .now) (c
 loop-holds : tie.Need-loop-holds Inv-loop μ-loop
 loop-holds c = (omega arith, refl)
 
-shared-slice-read-is-sent : tie.Need-shared-slice-read-is-sent Inv-loop μ-loop
-shared-slice-read-is-sent c = search needs
-
-is-sent-requires : tie.Need-is-sent-requires Inv-loop μ-loop
-is-sent-requires c κs = search needs
-
-add-i : tie.Need-add-i Inv-loop μ-loop
-add-i c = search needs
-
-loop-less : tie.Need-loop-less Inv-loop μ-loop
-loop-less c = search needs
-
 loop-again : tie.Need-loop-again Inv-loop μ-loop
 loop-again c = (omega arith, rw (sym (c .before .is-sent .ensures) ∙ c .if1 .taken) at (next (c .before .before .before)))
 
@@ -50,4 +38,6 @@ unfolding allSent
 returns-2 c = rw (drop-of-length-le (c .before .before .before .args .p .now) (c .loop-test .left)) at (c .before .loop .inv .1)
 
 pub all-sent-spec : {M : Type 1} → statement M
-all-sent-spec = tie.close (tie.spec Inv-loop μ-loop loop-holds shared-slice-read-is-sent is-sent-requires add-i loop-less loop-again returns returns-2)
+all-sent-spec = tie.close
+    (tie.spec Inv-loop μ-loop loop-holds (λ c. search needs) (λ c κs. search needs) (λ c. search needs) (λ c. search needs) loop-again returns
+    returns-2)

@@ -52,24 +52,6 @@ group-length t = part-length (D (t .before .before)) (t .before .before .loop .i
 loop-holds : tie.Need-loop-holds Inv-loop μ-loop
 loop-holds c = (omega arith, run-start (rw length-packed (c .before .before .pre)) refl)
 
-sub-least : tie.Need-sub-least Inv-loop μ-loop
-sub-least c = search needs
-
-least-requires : tie.Need-least-requires Inv-loop μ-loop
-least-requires c κs = search needs
-
-add-end : tie.Need-add-end Inv-loop μ-loop
-add-end c = search needs
-
-sub-pack-group : tie.Need-sub-pack-group Inv-loop μ-loop
-sub-pack-group c = search needs
-
-part-pack-group-start : tie.Need-part-pack-group-start Inv-loop μ-loop
-part-pack-group-start c = search needs
-
-part-pack-group-end : tie.Need-part-pack-group-end Inv-loop μ-loop
-part-pack-group-end c = search needs
-
 add-pack-group : tie.Need-add-pack-group Inv-loop μ-loop
 add-pack-group c = omega (arith, counts (c .before .before .before .before))
 
@@ -85,9 +67,6 @@ add-n c = omega (arith, counts (c .before .before .before .before .before .befor
 
 add-n-2 : tie.Need-add-n-2 Inv-loop μ-loop
 add-n-2 c = omega (arith, counts (c .before .before .before .before .before .before .before))
-
-loop-less : tie.Need-loop-less Inv-loop μ-loop
-loop-less c = search needs
 
 loop-again : tie.Need-loop-again Inv-loop μ-loop
 loop-again c =
@@ -108,4 +87,6 @@ returns c = run-end (c .before .loop .inv .1) (ap packed (drop-of-length-le (D (
 
 pub pack-all-spec : {M : Type 1} → statement M
 pack-all-spec =
-    tie.close (tie.spec Inv-loop μ-loop loop-holds sub-least least-requires add-end sub-pack-group part-pack-group-start part-pack-group-end add-pack-group pack-group-requires add-n add-n-2 loop-less loop-again same-length returns)
+    tie.close
+    (tie.spec Inv-loop μ-loop loop-holds (λ c. search needs) (λ c κs. search needs) (λ c. search needs) (λ c. search needs) (λ c. search needs)
+    (λ c. search needs) add-pack-group pack-group-requires add-n add-n-2 (λ c. search needs) loop-again same-length returns)

@@ -66,29 +66,11 @@ loop-holds : tie.Need-loop-holds Inv-loop μ-loop
 unfolding packedGroup
 loop-holds c = (omega arith, refl, run-start (rw length-group (omega arith)) refl)
 
-shared-slice-read-b : tie.Need-shared-slice-read-b Inv-loop μ-loop
-shared-slice-read-b c = search needs
-
-sent-as-requires : tie.Need-sent-as-requires Inv-loop μ-loop
-sent-as-requires c κs = search needs
-
-add-out : tie.Need-add-out Inv-loop μ-loop
-add-out c = search needs
-
-slice-write-out : tie.Need-slice-write-out Inv-loop μ-loop
-slice-write-out c = search needs
-
 mul-top : tie.Need-mul-top Inv-loop μ-loop
 mul-top c = omega (arith, here (c .before .before))
 
 add-top : tie.Need-add-top Inv-loop μ-loop
 add-top c = omega (arith, here (c .before .before))
-
-add-j : tie.Need-add-j Inv-loop μ-loop
-add-j c = search needs
-
-loop-less : tie.Need-loop-less Inv-loop μ-loop
-loop-less c = search needs
 
 loop-again : tie.Need-loop-again Inv-loop μ-loop
 loop-again c =
@@ -102,12 +84,6 @@ loop-again c =
 tops-sent-requires : tie.Need-tops-sent-requires Inv-loop μ-loop
 tops-sent-requires c κs = (omega arith, rw (placed c) (tops-placed (G (c .before)) (bytes (c .before)) (omega arith)))
 
-add-out-2 : tie.Need-add-out-2 Inv-loop μ-loop
-add-out-2 c = search needs
-
-slice-write-out-2 : tie.Need-slice-write-out-2 Inv-loop μ-loop
-slice-write-out-2 c = search needs
-
 same-length : tie.Need-same-length Inv-loop μ-loop
 same-length c = simp length-set (c .before .before .loop .inv .2 .long)
 
@@ -119,4 +95,6 @@ returns c =
 
 pub pack-group-spec : {M : Type 1} → statement M
 pack-group-spec =
-    tie.close (tie.spec Inv-loop μ-loop loop-holds shared-slice-read-b sent-as-requires add-out slice-write-out mul-top add-top add-j loop-less loop-again tops-sent-requires add-out-2 slice-write-out-2 same-length returns)
+    tie.close
+    (tie.spec Inv-loop μ-loop loop-holds (λ c. search needs) (λ c κs. search needs) (λ c. search needs) (λ c. search needs) mul-top add-top
+    (λ c. search needs) (λ c. search needs) loop-again tops-sent-requires (λ c. search needs) (λ c. search needs) same-length returns)

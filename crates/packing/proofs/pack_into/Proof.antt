@@ -13,12 +13,6 @@ use Rattle.framing.proofs.Stored.{stored-done, stored-refused}
 use Rattle.packing.proofs.pack_into.Statement.{statement}
 use Rattle.packing.proofs.pack_into.Tie as tie
 
-packed-length-requires : tie.Need-packed-length-requires
-packed-length-requires c κs = search needs
-
-sub-if2 : tie.Need-sub-if2
-sub-if2 c = search needs
-
 returns : tie.Need-returns
 returns c =
     let s = c .before .before .before .before in
@@ -42,9 +36,6 @@ room c =
 pack-all-requires : tie.Need-pack-all-requires
 pack-all-requires c κs = room (c .before)
 
-same-length : tie.Need-same-length
-same-length c = search needs
-
 returns-2 : tie.Need-returns-2
 returns-2 c =
     let k = c .before .before in
@@ -56,4 +47,4 @@ returns-2 c =
     ∙ sym (stored-done (packed d) (s .args .out .now) (s .args .at) (omega (arith, room (k .before .before), length-packed d)))
 
 pub pack-into-spec : {M : Type 1} → statement M
-pack-into-spec = tie.close (tie.spec packed-length-requires sub-if2 returns pack-all-requires same-length returns-2)
+pack-into-spec = tie.close (tie.spec (λ c κs. search needs) (λ c. search needs) returns pack-all-requires (λ c. search needs) returns-2)

@@ -6,9 +6,6 @@ use Rattle.packing.proofs.Tops.{place-room}
 use Rattle.packing.proofs.tops_of.Statement.{statement}
 use Rattle.packing.proofs.tops_of.Tie as tie
 
-last-place-requires : tie.Need-last-place-requires
-last-place-requires c κs = search needs
-
 shr-result : tie.Need-shr-result
 shr-result c = omega (arith, place-room (c .before .args .k) (c .before .pre))
 
@@ -16,4 +13,4 @@ returns : tie.Need-returns
 returns c = ap (λ (n : ℕ). c .before .args .b % 128 / 2 ^ n) (c .last-place .ensures)
 
 pub tops-of-spec : {M : Type 1} → statement M
-tops-of-spec = tie.close (tie.spec last-place-requires shr-result returns)
+tops-of-spec = tie.close (tie.spec (λ c κs. search needs) shr-result returns)

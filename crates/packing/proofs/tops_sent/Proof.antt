@@ -8,14 +8,8 @@ use Rattle.packing.proofs.tops_sent.Tie as tie
 use mathlib.Core.Path.{_≡_}
 use Prim.Native.Nat.{_*_, _%_, _^_}
 
-last-place-requires : tie.Need-last-place-requires
-last-place-requires c κs = search needs
-
 shl-sent-as : tie.Need-shl-sent-as
 shl-sent-as c = omega (arith, place-room (c .before .args .k) (c .before .pre .0))
-
-sent-as-requires : tie.Need-sent-as-requires
-sent-as-requires c κs = search needs
 
 returns : tie.Need-returns
 returns c =
@@ -25,4 +19,4 @@ returns c =
     rw placed at (c .sent-as .ensures)
 
 pub tops-sent-spec : {M : Type 1} → statement M
-tops-sent-spec = tie.close (tie.spec last-place-requires shl-sent-as sent-as-requires returns)
+tops-sent-spec = tie.close (tie.spec (λ c κs. search needs) shl-sent-as (λ c κs. search needs) returns)

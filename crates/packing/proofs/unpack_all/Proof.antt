@@ -60,33 +60,6 @@ loop-holds c =
     let n : length p ≤ length (s .args .store .now) = simp (length-take, length-drop) (omega arith) in
     (omega arith, omega arith, run-start (omega (arith, length-dataOf p)) refl)
 
-sub-least : tie.Need-sub-least Inv-loop μ-loop
-sub-least c = search needs
-
-sub-least-2 : tie.Need-sub-least-2 Inv-loop μ-loop
-sub-least-2 c = search needs
-
-least-requires : tie.Need-least-requires Inv-loop μ-loop
-least-requires c κs = search needs
-
-add-unpack-group : tie.Need-add-unpack-group Inv-loop μ-loop
-add-unpack-group c = search needs
-
-unpack-group-requires : tie.Need-unpack-group-requires Inv-loop μ-loop
-unpack-group-requires c κs = search needs
-
-add-n : tie.Need-add-n Inv-loop μ-loop
-add-n c = search needs
-
-add-e : tie.Need-add-e Inv-loop μ-loop
-add-e c = search needs
-
-add-e-2 : tie.Need-add-e-2 Inv-loop μ-loop
-add-e-2 c = search needs
-
-loop-less : tie.Need-loop-less Inv-loop μ-loop
-loop-less c = search needs
-
 loop-again : tie.Need-loop-again Inv-loop μ-loop
 loop-again c =
     let t = c .before .before .before .before in
@@ -118,4 +91,6 @@ returns c =
 
 pub unpack-all-spec : {M : Type 1} → statement M
 unpack-all-spec =
-    tie.close (tie.spec Inv-loop μ-loop loop-holds sub-least sub-least-2 least-requires add-unpack-group unpack-group-requires add-n add-e add-e-2 loop-less loop-again same-length returns)
+    tie.close
+    (tie.spec Inv-loop μ-loop loop-holds (λ c. search needs) (λ c. search needs) (λ c κs. search needs) (λ c. search needs) (λ c κs. search needs)
+    (λ c. search needs) (λ c. search needs) (λ c. search needs) (λ c. search needs) loop-again same-length returns)

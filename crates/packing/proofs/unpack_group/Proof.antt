@@ -39,15 +39,6 @@ S a = a .before .before .before .before
 abbrev Store : tie.At-loop Inv-loop μ-loop → List ℕ
 Store a = S a .args .store .now
 
-add-tops-of : tie.Need-add-tops-of Inv-loop μ-loop
-add-tops-of c = search needs
-
-slice-read-tops-of : tie.Need-slice-read-tops-of Inv-loop μ-loop
-slice-read-tops-of c = search needs
-
-tops-of-requires : tie.Need-tops-of-requires Inv-loop μ-loop
-tops-of-requires c κs = search needs
-
 loop-holds : tie.Need-loop-holds Inv-loop μ-loop
 unfolding unpackedGroup
 loop-holds c =
@@ -58,33 +49,6 @@ loop-holds c =
     let room : k ≤ length (drop from d) = simp length-drop (omega arith) in
     let tops : c .tops-of .result ≡ getD (drop from d) k 0 % 128 / 2 ^ lastPlace k = c .tops-of .ensures ∙ ap (λ (n : ℕ). n % 128 / 2 ^ lastPlace k) (sym (getD-drop from d k 0)) in
     (omega arith, run-start (omega (arith, length-unpackedGroup k (drop from d) room)) (ap (λ (t : ℕ). joined t (take k (drop from d))) tops))
-
-add-data-byte : tie.Need-add-data-byte Inv-loop μ-loop
-add-data-byte c = search needs
-
-slice-read-data-byte : tie.Need-slice-read-data-byte Inv-loop μ-loop
-slice-read-data-byte c = search needs
-
-sub-data-byte : tie.Need-sub-data-byte Inv-loop μ-loop
-sub-data-byte c = search needs
-
-sub-data-byte-2 : tie.Need-sub-data-byte-2 Inv-loop μ-loop
-sub-data-byte-2 c = search needs
-
-data-byte-requires : tie.Need-data-byte-requires Inv-loop μ-loop
-data-byte-requires c κs = search needs
-
-add-store : tie.Need-add-store Inv-loop μ-loop
-add-store c = search needs
-
-slice-write-store : tie.Need-slice-write-store Inv-loop μ-loop
-slice-write-store c = search needs
-
-add-j : tie.Need-add-j Inv-loop μ-loop
-add-j c = search needs
-
-loop-less : tie.Need-loop-less Inv-loop μ-loop
-loop-less c = search needs
 
 loop-again : tie.Need-loop-again Inv-loop μ-loop
 loop-again c =
@@ -108,4 +72,7 @@ returns c =
 
 pub unpack-group-spec : {M : Type 1} → statement M
 unpack-group-spec =
-    tie.close (tie.spec Inv-loop μ-loop add-tops-of slice-read-tops-of tops-of-requires loop-holds add-data-byte slice-read-data-byte sub-data-byte sub-data-byte-2 data-byte-requires add-store slice-write-store add-j loop-less loop-again same-length returns)
+    tie.close
+    (tie.spec Inv-loop μ-loop (λ c. search needs) (λ c. search needs) (λ c κs. search needs) loop-holds (λ c. search needs) (λ c. search needs)
+    (λ c. search needs) (λ c. search needs) (λ c κs. search needs) (λ c. search needs) (λ c. search needs) (λ c. search needs) (λ c. search needs)
+    loop-again same-length returns)

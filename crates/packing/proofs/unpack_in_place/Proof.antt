@@ -34,36 +34,6 @@ tested t =
     ∙ ap (λ (k : ℕ). wellPacked (take k (drop start (m .before .before .before .args .store .now)))) n
     ∙ ap wellPacked (part m))
 
-least-requires : tie.Need-least-requires
-least-requires c κs = search needs
-
-sub-least : tie.Need-sub-least
-sub-least c = search needs
-
-least-requires-2 : tie.Need-least-requires-2
-least-requires-2 c κs = search needs
-
-add-end : tie.Need-add-end
-add-end c = search needs
-
-sub-well-packed : tie.Need-sub-well-packed
-sub-well-packed c = search needs
-
-part-well-packed-start : tie.Need-part-well-packed-start
-part-well-packed-start c = search needs
-
-part-well-packed-end : tie.Need-part-well-packed-end
-part-well-packed-end c = search needs
-
-well-packed-requires : tie.Need-well-packed-requires
-well-packed-requires c κs = search needs
-
-unpack-all-requires : tie.Need-unpack-all-requires
-unpack-all-requires c κs = search needs
-
-same-length : tie.Need-same-length
-same-length c = search needs
-
 returns : tie.Need-returns
 returns c =
     let k = c .before .before in
@@ -74,9 +44,6 @@ returns c =
     (k .unpack-all .ensures .1 ∙ ap (λ (p : List ℕ). sets (s .args .store .now) 0 (dataInGroups p)) (part m))
     ∙ sym (unpacked-done (s .args .store .now) (s .args .from) (s .args .count) (dataInGroups (P s)) (well-unpacks (P s) (tested t ∙ k .before .before .if1 .taken)))
 
-same-length-2 : tie.Need-same-length-2
-same-length-2 c = search needs
-
 returns-2 : tie.Need-returns-2
 returns-2 c =
     let t = c .before in
@@ -84,4 +51,6 @@ returns-2 c =
     sym (unpacked-refused (s .args .store .now) (s .args .from) (s .args .count) (badly-unpacks (P s) (tested t ∙ c .if1 .left)))
 
 pub unpack-in-place-spec : {M : Type 1} → statement M
-unpack-in-place-spec = tie.close (tie.spec least-requires sub-least least-requires-2 add-end sub-well-packed part-well-packed-start part-well-packed-end well-packed-requires unpack-all-requires same-length returns same-length-2 returns-2)
+unpack-in-place-spec = tie.close
+    (tie.spec (λ c κs. search needs) (λ c. search needs) (λ c κs. search needs) (λ c. search needs) (λ c. search needs) (λ c. search needs)
+    (λ c. search needs) (λ c κs. search needs) (λ c κs. search needs) (λ c. search needs) returns (λ c. search needs) returns-2)

@@ -9,15 +9,6 @@ use Rattle.packing.proofs.Tops.{place-room, one-shl}
 use Rattle.packing.proofs.unused_clear.Statement.{statement}
 use Rattle.packing.proofs.unused_clear.Tie as tie
 
-last-place-requires : tie.Need-last-place-requires
-last-place-requires c κs = search needs
-
-cast-size : tie.Need-cast-size
-cast-size c = search needs
-
-shl-size : tie.Need-shl-size
-shl-size c = search needs
-
 shr-result : tie.Need-shr-result
 shr-result c = omega (arith, place-room (c .before .args .k) (c .before .pre .0))
 
@@ -40,4 +31,4 @@ returns c =
 
 pub unused-clear-spec : {M : Type 1} → statement M
 unused-clear-spec =
-    tie.close (tie.spec last-place-requires cast-size shl-size shr-result rem-result shl-result returns)
+    tie.close (tie.spec (λ c κs. search needs) (λ c. search needs) (λ c. search needs) shr-result rem-result shl-result returns)

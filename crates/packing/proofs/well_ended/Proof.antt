@@ -7,12 +7,6 @@ use Rattle.packing.specs.Unpacked.{wellEnded}
 use Rattle.packing.proofs.well_ended.Statement.{statement}
 use Rattle.packing.proofs.well_ended.Tie as tie
 
-add-unused-clear : tie.Need-add-unused-clear
-add-unused-clear c = search needs
-
-unused-clear-requires : tie.Need-unused-clear-requires
-unused-clear-requires c κs = search needs
-
 returns : tie.Need-returns
 unfolding wellEnded
 returns c = rw (eq-eqb _ 1 (c .if1 .taken))
@@ -25,4 +19,4 @@ returns-2 c =
     rw (ne-eqb (n % 8) 1 (c .before .if1 .left), ← e) (c .unused-clear .ensures)
 
 pub well-ended-spec : {M : Type 1} → statement M
-well-ended-spec = tie.close (tie.spec add-unused-clear unused-clear-requires returns returns-2)
+well-ended-spec = tie.close (tie.spec (λ c. search needs) (λ c κs. search needs) returns returns-2)

@@ -8,18 +8,6 @@ use Rattle.packing.proofs.well_packed.Tie as tie
 returns : tie.Need-returns
 returns c = sym (well-empty _ (c .if1 .taken))
 
-all-sent-requires : tie.Need-all-sent-requires
-all-sent-requires c κs = search needs
-
-sub-well-ended : tie.Need-sub-well-ended
-sub-well-ended c = search needs
-
-shared-slice-read-well-ended : tie.Need-shared-slice-read-well-ended
-shared-slice-read-well-ended c = search needs
-
-well-ended-requires : tie.Need-well-ended-requires
-well-ended-requires c κs = search needs
-
 returns-2 : tie.Need-returns-2
 unfolding wellPacked
 returns-2 c =
@@ -32,4 +20,4 @@ returns-3 c = rw (sym (c .before .all-sent .ensures) ∙ c .if2 .left)
 
 pub well-packed-spec : {M : Type 1} → statement M
 well-packed-spec =
-    tie.close (tie.spec returns all-sent-requires sub-well-ended shared-slice-read-well-ended well-ended-requires returns-2 returns-3)
+    tie.close (tie.spec returns (λ c κs. search needs) (λ c. search needs) (λ c. search needs) (λ c κs. search needs) returns-2 returns-3)

@@ -14,30 +14,15 @@ returns : tie.Need-returns
 unfolding faultOf
 returns c = rw (lt-ltb _ 9 (c .if1 .taken))
 
-shared-slice-read-asks-crc : tie.Need-shared-slice-read-asks-crc
-shared-slice-read-asks-crc c = search needs
-
-asks-crc-requires : tie.Need-asks-crc-requires
-asks-crc-requires c κs = search needs
-
 -- each test made so far, by the promise of the call it asks, says which way `faultOf` goes there; so for all that follow
 returns-2 : tie.Need-returns-2
 unfolding faultOf
 returns-2 c = rw (le-ltb _ 9 (c .before .before .before .if1 .left), sym (c .before .asks-crc .ensures) ∙ c .if2 .taken)
 
-sub-end : tie.Need-sub-end
-sub-end c = search needs
-
-shared-slice-read-if3 : tie.Need-shared-slice-read-if3
-shared-slice-read-if3 c = search needs
-
 slice-aggregate-sum : tie.Need-slice-aggregate-sum
 slice-aggregate-sum c =
     let g = c .before .before .before .before .before .before .before .args .gathered .now in
     sym (length-take-le (length g - 1) g (omega arith))
-
-sum-requires : tie.Need-sum-requires
-sum-requires c κs = search needs
 
 returns-3 : tie.Need-returns-3
 unfolding faultOf
@@ -46,9 +31,6 @@ returns-3 c =
     let l = a .before .before .before in
     let g = l .before .before .args .gathered .now in
     rw (le-ltb _ 9 (l .if1 .left), sym (a .before .asks-crc .ensures) ∙ a .if2 .left, ne-eqb _ (sumOf (take (length g - 1) g)) (λ e. c .if3 .taken (e ∙ sym (c .before .sum .ensures))))
-
-fields-ok-requires : tie.Need-fields-ok-requires
-fields-ok-requires c κs = search needs
 
 returns-4 : tie.Need-returns-4
 unfolding faultOf
@@ -59,15 +41,6 @@ returns-4 c =
     let g = l .before .before .args .gathered .now in
     let sum = eq-eqb _ (sumOf (take (length g - 1) g)) (s .if3 .left ∙ s .before .sum .ensures) in
     rw (le-ltb _ 9 (l .if1 .left), sym (a .before .asks-crc .ensures) ∙ a .if2 .left, sum, sym (c .before .fields-ok .ensures) ∙ not-true _ (c .if4 .taken))
-
-shared-slice-read-stated-by : tie.Need-shared-slice-read-stated-by
-shared-slice-read-stated-by c = search needs
-
-shared-slice-read-stated-by-2 : tie.Need-shared-slice-read-stated-by-2
-shared-slice-read-stated-by-2 c = search needs
-
-stated-by-requires : tie.Need-stated-by-requires
-stated-by-requires c κs = search needs
 
 returns-5 : tie.Need-returns-5
 unfolding faultOf
@@ -96,20 +69,6 @@ returns-6 c =
 pub fault-of-spec : {M : Type 1} → statement M
 fault-of-spec =
     tie.close
-    (tie.spec
-    returns
-    shared-slice-read-asks-crc
-    asks-crc-requires
-    returns-2
-    sub-end
-    shared-slice-read-if3
-    slice-aggregate-sum
-    sum-requires
-    returns-3
-    fields-ok-requires
-    returns-4
-    shared-slice-read-stated-by
-    shared-slice-read-stated-by-2
-    stated-by-requires
-    returns-5
+    (tie.spec returns (λ c. search needs) (λ c κs. search needs) returns-2 (λ c. search needs) (λ c. search needs) slice-aggregate-sum
+    (λ c κs. search needs) returns-3 (λ c κs. search needs) returns-4 (λ c. search needs) (λ c. search needs) (λ c κs. search needs) returns-5
     returns-6)

@@ -15,33 +15,6 @@ use Rattle.pcs.proofs.And.{joined}
 use Rattle.pcs.proofs.fields_ok.Statement.{statement}
 use Rattle.pcs.proofs.fields_ok.Tie as tie
 
-numbers-of-requires : tie.Need-numbers-of-requires
-numbers-of-requires c κs = search needs
-
-shared-slice-read-high : tie.Need-shared-slice-read-high
-shared-slice-read-high c = search needs
-
-shared-slice-read-low : tie.Need-shared-slice-read-low
-shared-slice-read-low c = search needs
-
-plain-fields-ok-requires : tie.Need-plain-fields-ok-requires
-plain-fields-ok-requires c κs = search needs
-
-shared-slice-read-if2 : tie.Need-shared-slice-read-if2
-shared-slice-read-if2 c = search needs
-
-is-sent-requires : tie.Need-is-sent-requires
-is-sent-requires c κs = search needs
-
-is-sent-requires-2 : tie.Need-is-sent-requires-2
-is-sent-requires-2 c κs = search needs
-
-stated-by-requires : tie.Need-stated-by-requires
-stated-by-requires c κs = search needs
-
-kind-ok-requires : tie.Need-kind-ok-requires
-kind-ok-requires c κs = search needs
-
 -- v1 to v4 are the first one to four tests of the chain as the specification joins them; a test is asked only where those before it hold
 returns : tie.Need-returns
 returns c =
@@ -69,15 +42,5 @@ returns-2 c =
 pub fields-ok-spec : {M : Type 1} → statement M
 fields-ok-spec =
     tie.close
-    (tie.spec
-    numbers-of-requires
-    shared-slice-read-high
-    shared-slice-read-low
-    plain-fields-ok-requires
-    shared-slice-read-if2
-    is-sent-requires
-    is-sent-requires-2
-    stated-by-requires
-    kind-ok-requires
-    returns
-    returns-2)
+    (tie.spec (λ c κs. search needs) (λ c. search needs) (λ c. search needs) (λ c κs. search needs) (λ c. search needs) (λ c κs. search needs)
+    (λ c κs. search needs) (λ c κs. search needs) (λ c κs. search needs) returns returns-2)

@@ -6,22 +6,10 @@ use Rattle.pcs.proofs.OnByte.{judge-noise}
 use Rattle.pcs.proofs.inside_byte.Statement.{statement}
 use Rattle.pcs.proofs.inside_byte.Tie as tie
 
-reopen-requires : tie.Need-reopen-requires
-reopen-requires c κs = search needs
-
 returns : tie.Need-returns
 returns c =
     let t = eq-eqb _ _ (c .before .if1 .taken) in
     (simp t (record { tells = refl; state = c .reopen .ensures }), simp t)
-
-judge-frame-requires : tie.Need-judge-frame-requires
-judge-frame-requires c κs = search needs
-
-close-requires : tie.Need-close-requires
-close-requires c κs = search needs
-
-same-length : tie.Need-same-length
-same-length c = search needs
 
 returns-2 : tie.Need-returns-2
 returns-2 c =
@@ -31,12 +19,6 @@ returns-2 c =
     let t = eq-eqb _ _ (c .before .before .before .before .before .if2 .taken) in
     let j = c .before .before .before .judge-frame .ensures in
     (simp (n, t) (record { tells = j .0 _; state = simp (judge-noise) (c .close .ensures) }), simp (n, t) (j .1 _))
-
-gather-byte-requires : tie.Need-gather-byte-requires
-gather-byte-requires c κs = search needs
-
-same-length-2 : tie.Need-same-length-2
-same-length-2 c = search needs
 
 returns-3 : tie.Need-returns-3
 returns-3 c =
@@ -48,13 +30,5 @@ returns-3 c =
 pub inside-byte-spec : {M : Type 1} → statement M
 inside-byte-spec =
     tie.close
-    (tie.spec
-    reopen-requires
-    returns
-    judge-frame-requires
-    close-requires
-    same-length
-    returns-2
-    gather-byte-requires
-    same-length-2
-    returns-3)
+    (tie.spec (λ c κs. search needs) returns (λ c κs. search needs) (λ c κs. search needs) (λ c. search needs) returns-2 (λ c κs. search needs)
+    (λ c. search needs) returns-3)

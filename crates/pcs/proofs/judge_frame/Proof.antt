@@ -15,19 +15,10 @@ use Rattle.pcs.proofs.Judge.{judge-fault, judge-told, judge-stored}
 use Rattle.pcs.proofs.judge_frame.Statement.{statement}
 use Rattle.pcs.proofs.judge_frame.Tie as tie
 
-slice-reshare-prefix-fault-of : tie.Need-slice-reshare-prefix-fault-of
-slice-reshare-prefix-fault-of c = search needs
-
 slice-aggregate-fault-of : tie.Need-slice-aggregate-fault-of
 slice-aggregate-fault-of c =
     let a = c .before .before .args in
     sym (length-take-le (a .count) (a .store .now) (omega arith))
-
-fault-of-requires : tie.Need-fault-of-requires
-fault-of-requires c κs = search needs
-
-same-length : tie.Need-same-length
-same-length c = search needs
 
 returns : tie.Need-returns
 returns c =
@@ -36,9 +27,6 @@ returns c =
     let g = take (a .count) (a .store .now) in
     let n : faultOf g ≡ 0 → ⊥ = λ e. c .if1 .taken (f ∙ e) in
     (λ wire. rw (judge-fault g wire n) (ap refused f), λ wire. rw (judge-fault g wire n))
-
-slice-reshare-prefix-numbers-of : tie.Need-slice-reshare-prefix-numbers-of
-slice-reshare-prefix-numbers-of c = search needs
 
 slice-aggregate-numbers-of : tie.Need-slice-aggregate-numbers-of
 slice-aggregate-numbers-of c =
@@ -56,15 +44,6 @@ sub-unpack-in-place c =
     let a = c .before .before .before .before .before .before .before .args in
     rw (length-take-le (a .count) (a .store .now) (omega arith)) at (passed (take (a .count) (a .store .now)) (sym (c .before .before .before .before .fault-of .ensures) ∙ c .before .before .before .if1 .left) .long)
 
-unpack-in-place-requires : tie.Need-unpack-in-place-requires
-unpack-in-place-requires c κs = search needs
-
-told-of-requires : tie.Need-told-of-requires
-told-of-requires c κs = search needs
-
-same-length-2 : tie.Need-same-length-2
-same-length-2 c = search needs
-
 -- without a fault, the event is made of the numbers that `numbers_of` promises, read before, and of what `unpack_in_place` answers and leaves
 returns-2 : tie.Need-returns-2
 returns-2 c =
@@ -80,17 +59,5 @@ returns-2 c =
 pub judge-frame-spec : {M : Type 1} → statement M
 judge-frame-spec =
     tie.close
-    (tie.spec
-    slice-reshare-prefix-fault-of
-    slice-aggregate-fault-of
-    fault-of-requires
-    same-length
-    returns
-    slice-reshare-prefix-numbers-of
-    slice-aggregate-numbers-of
-    numbers-of-requires
-    sub-unpack-in-place
-    unpack-in-place-requires
-    told-of-requires
-    same-length-2
-    returns-2)
+    (tie.spec (λ c. search needs) slice-aggregate-fault-of (λ c κs. search needs) (λ c. search needs) returns (λ c. search needs)
+    slice-aggregate-numbers-of numbers-of-requires sub-unpack-in-place (λ c κs. search needs) (λ c κs. search needs) (λ c. search needs) returns-2)

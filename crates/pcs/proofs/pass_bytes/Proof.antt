@@ -9,33 +9,6 @@ use Rattle.pcs.proofs.Passing.{gathers-plain}
 use Rattle.pcs.proofs.pass_bytes.Statement.{statement}
 use Rattle.pcs.proofs.pass_bytes.Tie as tie
 
-sub-copy-before : tie.Need-sub-copy-before
-sub-copy-before c = search needs
-
-part-copy-before-start : tie.Need-part-copy-before-start
-part-copy-before-start c = search needs
-
-part-copy-before-end : tie.Need-part-copy-before-end
-part-copy-before-end c = search needs
-
-sub-copy-before-2 : tie.Need-sub-copy-before-2
-sub-copy-before-2 c = search needs
-
-copy-before-requires : tie.Need-copy-before-requires
-copy-before-requires c κs = search needs
-
-add-pass-open : tie.Need-add-pass-open
-add-pass-open c = search needs
-
-pass-open-requires : tie.Need-pass-open-requires
-pass-open-requires c κs = search needs
-
-add-t13 : tie.Need-add-t13
-add-t13 c = search needs
-
-same-length : tie.Need-same-length
-same-length c = search needs
-
 -- `copy_before` promises that the n bytes stand before any mark, fit in the size and are stored, so each is gathered without an event;
 -- `pass_open` promises the state behind them
 returns : tie.Need-returns
@@ -61,14 +34,5 @@ returns c =
 pub pass-bytes-spec : {M : Type 1} → statement M
 pass-bytes-spec =
     tie.close
-    (tie.spec
-    sub-copy-before
-    part-copy-before-start
-    part-copy-before-end
-    sub-copy-before-2
-    copy-before-requires
-    add-pass-open
-    pass-open-requires
-    add-t13
-    same-length
-    returns)
+    (tie.spec (λ c. search needs) (λ c. search needs) (λ c. search needs) (λ c. search needs) (λ c κs. search needs) (λ c. search needs)
+    (λ c κs. search needs) (λ c. search needs) (λ c. search needs) returns)

@@ -5,16 +5,10 @@ use Rattle.framing.proofs.States.{known-count}
 use Rattle.pcs.proofs.receive.Statement.{statement}
 use Rattle.pcs.proofs.receive.Tie as tie
 
-is-known-requires : tie.Need-is-known-requires
-is-known-requires c κs = search needs
-
 scan-requires : tie.Need-scan-requires
 scan-requires c κs =
     let k = c .before .before .before in
     (known-count 2 1 1180 (k .before .before .before .args .state) (sym (k .is-known .ensures) ∙ c .before .before .if1 .taken), c .before .if2 .taken)
-
-same-length : tie.Need-same-length
-same-length c = search needs
 
 returns : tie.Need-returns
 returns c =
@@ -29,4 +23,4 @@ returns-3 c = simp (sym (c .before .is-known .ensures) ∙ c .if1 .left)
 
 pub receive-spec : {M : Type 1} → statement M
 receive-spec =
-    tie.close (tie.spec is-known-requires scan-requires same-length returns returns-2 returns-3)
+    tie.close (tie.spec (λ c κs. search needs) scan-requires (λ c. search needs) returns returns-2 returns-3)

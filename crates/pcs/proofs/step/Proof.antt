@@ -5,20 +5,11 @@ use Rattle.pcs.proofs.Store.{hunting-store}
 use Rattle.pcs.proofs.step.Statement.{statement}
 use Rattle.pcs.proofs.step.Tie as tie
 
-hunt-requires : tie.Need-hunt-requires
-hunt-requires c κs = search needs
-
-inside-byte-requires : tie.Need-inside-byte-requires
-inside-byte-requires c κs = search needs
-
 returns : tie.Need-returns
 returns c =
     let a = c .before .before .before .before .args in
     let e = eq-eqb _ _ (c .before .if1 .taken) in
     (simp e (c .hunt .ensures), simp e (sym (hunting-store (a .store .now) (a .byte))))
-
-same-length : tie.Need-same-length
-same-length c = search needs
 
 returns-2 : tie.Need-returns-2
 returns-2 c =
@@ -27,4 +18,4 @@ returns-2 c =
     (simp n (g .0), simp n (g .1))
 
 pub step-spec : {M : Type 1} → statement M
-step-spec = tie.close (tie.spec hunt-requires inside-byte-requires returns same-length returns-2)
+step-spec = tie.close (tie.spec (λ c κs. search needs) (λ c κs. search needs) returns (λ c. search needs) returns-2)

@@ -20,26 +20,8 @@ Inv-loop low high s out₀ at most stop k₀ out k =
 abbrev μ-loop : tie.MeasureT-loop
 μ-loop low high s out₀ at most stop k₀ out k = stop - k
 
-left-requires : tie.Need-left-requires Inv-loop μ-loop
-left-requires c κs = search needs
-
-least-requires : tie.Need-least-requires Inv-loop μ-loop
-least-requires c κs = search needs
-
-least-requires-2 : tie.Need-least-requires-2 Inv-loop μ-loop
-least-requires-2 c κs = search needs
-
 loop-holds : tie.Need-loop-holds Inv-loop μ-loop
 loop-holds c = (omega arith, rw (c .least2 .ensures, c .before .least .ensures, c .before .before .left .ensures), refl, refl, omega arith)
-
-shared-slice-read-byte : tie.Need-shared-slice-read-byte Inv-loop μ-loop
-shared-slice-read-byte c = search needs
-
-is-between-requires : tie.Need-is-between-requires Inv-loop μ-loop
-is-between-requires c κs = search needs
-
-same-length : tie.Need-same-length Inv-loop μ-loop
-same-length c = search needs
 
 -- `is_between` promises that the byte at k is a mark, so the count of those before it is k
 returns : tie.Need-returns Inv-loop μ-loop
@@ -48,15 +30,6 @@ returns c =
     let a = l .before .before .before .before .before .before .args in
     let m = before-mark (a .low) (a .high) (a .s .now) (l .loop .k) (omega arith) (sym (c .before .is-between .ensures) ∙ c .if1 .taken) in
     (omega (arith, l .loop .inv), ((omega arith, omega arith), l .loop .inv .3))
-
-add-out : tie.Need-add-out Inv-loop μ-loop
-add-out c = search needs
-
-slice-write-out : tie.Need-slice-write-out Inv-loop μ-loop
-slice-write-out c = search needs
-
-add-k : tie.Need-add-k Inv-loop μ-loop
-add-k c = search needs
 
 loop-less : tie.Need-loop-less Inv-loop μ-loop
 loop-less c = omega (arith, c .before .before .before .loop-test .taken)
@@ -73,9 +46,6 @@ loop-again c =
       omega (arith, h .4, before-next (a .low) (a .high) (a .s .now) (l .loop .k) (omega arith) (sym (c .before .is-between .ensures) ∙ c .if1 .left)),
     )
 
-same-length-2 : tie.Need-same-length-2 Inv-loop μ-loop
-same-length-2 c = search needs
-
 returns-2 : tie.Need-returns-2 Inv-loop μ-loop
 returns-2 c =
     let l = c .before in
@@ -85,21 +55,6 @@ returns-2 c =
 pub copy-before-spec : {M : Type 1} → statement M
 copy-before-spec =
     tie.close
-    (tie.spec
-    Inv-loop
-    μ-loop
-    left-requires
-    least-requires
-    least-requires-2
-    loop-holds
-    shared-slice-read-byte
-    is-between-requires
-    same-length
-    returns
-    add-out
-    slice-write-out
-    add-k
-    loop-less
-    loop-again
-    same-length-2
-    returns-2)
+    (tie.spec Inv-loop μ-loop (λ c κs. search needs) (λ c κs. search needs) (λ c κs. search needs) loop-holds (λ c. search needs)
+    (λ c κs. search needs) (λ c. search needs) returns (λ c. search needs) (λ c. search needs) (λ c. search needs) loop-less loop-again
+    (λ c. search needs) returns-2)

@@ -26,24 +26,12 @@ small c =
     let l = c .before .before .loop in
     rw (l .inv .1) (part-lt (a .s .now) (a .at) (min (a .size) 4) (l .k) 3 (λ i. omega (arith, c .shared-slice-known2 .given i)) (omega arith))
 
-least-requires : tie.Need-least-requires Inv-loop μ-loop
-least-requires c κs = tt
-
-left-requires : tie.Need-left-requires Inv-loop μ-loop
-left-requires c κs = tt
-
-least-requires-2 : tie.Need-least-requires-2 Inv-loop μ-loop
-least-requires-2 c κs = tt
-
 loop-holds : tie.Need-loop-holds Inv-loop μ-loop
 loop-holds c =
     let a = c .before .before .before .before .args in
     let e : c .least2 .result ≡ length (part (a .s .now) (a .at) (min (a .size) 4)) =
     c .least2 .ensures ∙ ap₂ min (c .before .before .least .ensures) (c .before .left .ensures) ∙ sym (part-length (a .s .now) (a .at) (min (a .size) 4)) in
     (omega arith, sym (rw e (part-start (a .s .now) (a .at) (min (a .size) 4))))
-
-sub-k : tie.Need-sub-k Inv-loop μ-loop
-sub-k c = omega arith
 
 add-b : tie.Need-add-b Inv-loop μ-loop
 add-b c = omega (arith, long c, c .before .before .before .before .before .before .good)
@@ -60,9 +48,6 @@ mul-n c = omega (arith, small c)
 add-n : tie.Need-add-n Inv-loop μ-loop
 add-n c = omega (arith, small c, c .shared-slice-known2 .given (c .before .before .before .before .before .before .before .args .at + (c .before .before .loop .k - 1)))
 
-loop-less : tie.Need-loop-less Inv-loop μ-loop
-loop-less c = omega arith
-
 loop-again : tie.Need-loop-again Inv-loop μ-loop
 loop-again c =
     let a = c .before .before .before .before .before .before .before .args in
@@ -75,19 +60,5 @@ returns c = let z : c .before .loop .k ≡ 0 = omega arith in c .before .loop .i
 pub number-at-spec : {M : Type 1} → statement M
 number-at-spec =
     tie.close
-    (tie.spec
-    Inv-loop
-    μ-loop
-    least-requires
-    left-requires
-    least-requires-2
-    loop-holds
-    sub-k
-    add-b
-    shared-slice-read-b
-    cast-b
-    mul-n
-    add-n
-    loop-less
-    loop-again
-    returns)
+    (tie.spec Inv-loop μ-loop (λ c κs. tt) (λ c κs. tt) (λ c κs. tt) loop-holds (λ c. omega arith) add-b shared-slice-read-b cast-b mul-n add-n
+    (λ c. omega arith) loop-again returns)

@@ -17,34 +17,19 @@ Inv-loop out₀ at size n stop rest₀ k₀ out rest k =
 abbrev μ-loop : tie.MeasureT-loop
 μ-loop out₀ at size n stop rest₀ k₀ out rest k = stop - k
 
-left-requires : tie.Need-left-requires Inv-loop μ-loop
-left-requires c κs = tt
-
 -- where the loop stops
 module _ (c : tie.At-loop Inv-loop μ-loop) where
   stops : c .before .least .result ≡ min (c .before .before .before .before .args .size) (length (c .before .before .before .before .args .out .now) - c .before .before .before .before .args .at)
   stops = c .before .least .ensures ∙ ap (min (c .before .before .before .before .args .size)) (c .before .before .left .ensures)
 
-least-requires : tie.Need-least-requires Inv-loop μ-loop
-least-requires c κs = tt
-
 loop-holds : tie.Need-loop-holds Inv-loop μ-loop
 loop-holds c = (omega arith, (refl, put-start _ _ _ _))
-
-cast-out : tie.Need-cast-out Inv-loop μ-loop
-cast-out c = omega arith
 
 add-out : tie.Need-add-out Inv-loop μ-loop
 add-out c = omega (arith, stops (c .before), c .before .before .before .before .before .good)
 
 slice-write-out : tie.Need-slice-write-out Inv-loop μ-loop
 slice-write-out c = omega (arith, stops (c .before))
-
-add-k : tie.Need-add-k Inv-loop μ-loop
-add-k c = omega arith
-
-loop-less : tie.Need-loop-less Inv-loop μ-loop
-loop-less c = omega arith
 
 loop-again : tie.Need-loop-again Inv-loop μ-loop
 loop-again c =
@@ -64,17 +49,5 @@ returns c =
 pub put-number-spec : {M : Type 1} → statement M
 put-number-spec =
     tie.close
-    (tie.spec
-    Inv-loop
-    μ-loop
-    left-requires
-    least-requires
-    loop-holds
-    cast-out
-    add-out
-    slice-write-out
-    add-k
-    loop-less
-    loop-again
-    same-length
-    returns)
+    (tie.spec Inv-loop μ-loop (λ c κs. tt) (λ c κs. tt) loop-holds (λ c. omega arith) add-out slice-write-out (λ c. omega arith) (λ c. omega arith)
+    loop-again same-length returns)

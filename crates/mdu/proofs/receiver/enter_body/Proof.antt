@@ -12,26 +12,11 @@ slice-aggregate-header-fault c = sym (length-take-le 6 (c .before .before .befor
 header-fault-requires : tie.Need-header-fault-requires
 header-fault-requires c κs = omega (arith, length-take-le 6 (c .before .before .before .args .store .now) (omega (arith, c .before .before .before .pre .room)))
 
-end-requires : tie.Need-end-requires
-end-requires c κs = search needs
-
 returns : tie.Need-returns
 returns c =
     let a = c .before .before .before .before .before .before .args in
     let f = c .before .before .header-fault .ensures in
     by-rules-refused (a .state) _ (c .end .result) _ _ (enter-fault (a .store .now) (λ e. c .before .if1 .taken (f ∙ e))) (rw (sym f) (c .end .ensures))
-
-shared-slice-read-joined : tie.Need-shared-slice-read-joined
-shared-slice-read-joined c = search needs
-
-shared-slice-read-joined-2 : tie.Need-shared-slice-read-joined-2
-shared-slice-read-joined-2 c = search needs
-
-joined-requires : tie.Need-joined-requires
-joined-requires c κs = search needs
-
-go-on-requires : tie.Need-go-on-requires
-go-on-requires c κs = search needs
 
 -- without a fault `enter` goes on to the body, of the length that `joined` gives
 returns-2 : tie.Need-returns-2
@@ -45,13 +30,5 @@ returns-2 c =
 pub enter-body-spec : {M : Type 1} → statement M
 enter-body-spec =
     tie.close
-    (tie.spec
-    slice-aggregate-header-fault
-    header-fault-requires
-    end-requires
-    returns
-    shared-slice-read-joined
-    shared-slice-read-joined-2
-    joined-requires
-    go-on-requires
-    returns-2)
+    (tie.spec slice-aggregate-header-fault header-fault-requires (λ c κs. search needs) returns (λ c. search needs) (λ c. search needs)
+    (λ c κs. search needs) (λ c κs. search needs) returns-2)

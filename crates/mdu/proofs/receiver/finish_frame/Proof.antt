@@ -10,39 +10,6 @@ use borrow.Author.Needs.{needs}
 use Rattle.mdu.proofs.receiver.finish_frame.Statement.{statement}
 use Rattle.mdu.proofs.receiver.finish_frame.Tie as tie
 
-add-end : tie.Need-add-end
-add-end c = search needs
-
-sub-crc16 : tie.Need-sub-crc16
-sub-crc16 c = search needs
-
-part-crc16-start : tie.Need-part-crc16-start
-part-crc16-start c = search needs
-
-part-crc16-end : tie.Need-part-crc16-end
-part-crc16-end c = search needs
-
-crc16-requires : tie.Need-crc16-requires
-crc16-requires c κs = search needs
-
-shared-slice-read-joined : tie.Need-shared-slice-read-joined
-shared-slice-read-joined c = search needs
-
-add-joined : tie.Need-add-joined
-add-joined c = search needs
-
-shared-slice-read-joined-2 : tie.Need-shared-slice-read-joined-2
-shared-slice-read-joined-2 c = search needs
-
-joined-requires : tie.Need-joined-requires
-joined-requires c κs = search needs
-
-cast-if1 : tie.Need-cast-if1
-cast-if1 c = search needs
-
-shared-slice-read-t18 : tie.Need-shared-slice-read-t18
-shared-slice-read-t18 c = search needs
-
 -- e: the check value in the frame, which `joined` reads, is that of the body, which `crc16` promises
 returns : tie.Need-returns
 returns c =
@@ -67,17 +34,5 @@ returns-2 c =
 pub finish-frame-spec : {M : Type 1} → statement M
 finish-frame-spec =
     tie.close
-    (tie.spec
-    add-end
-    sub-crc16
-    part-crc16-start
-    part-crc16-end
-    crc16-requires
-    shared-slice-read-joined
-    add-joined
-    shared-slice-read-joined-2
-    joined-requires
-    cast-if1
-    shared-slice-read-t18
-    returns
-    returns-2)
+    (tie.spec (λ c. search needs) (λ c. search needs) (λ c. search needs) (λ c. search needs) (λ c κs. search needs) (λ c. search needs)
+    (λ c. search needs) (λ c. search needs) (λ c κs. search needs) (λ c. search needs) (λ c. search needs) returns returns-2)

@@ -8,21 +8,6 @@ use borrow.Author.Needs.{needs}
 use Rattle.mdu.proofs.receiver.header_byte.Statement.{statement}
 use Rattle.mdu.proofs.receiver.header_byte.Tie as tie
 
-slice-write-store : tie.Need-slice-write-store
-slice-write-store c = search needs
-
-enter-body-requires : tie.Need-enter-body-requires
-enter-body-requires c κs = search needs
-
-add-go-on : tie.Need-add-go-on
-add-go-on c = search needs
-
-go-on-requires : tie.Need-go-on-requires
-go-on-requires c κs = search needs
-
-same-length : tie.Need-same-length
-same-length c = search needs
-
 returns : tie.Need-returns
 returns c =
     let a = c .before .before .before .before .before .args in
@@ -31,9 +16,6 @@ returns c =
           (c .enter-body .ensures),
       more-over (a .store .now) n (a .byte) (omega arith),
     )
-
-same-length-2 : tie.Need-same-length-2
-same-length-2 c = search needs
 
 returns-2 : tie.Need-returns-2
 returns-2 c =
@@ -48,12 +30,5 @@ returns-2 c =
 pub header-byte-spec : {M : Type 1} → statement M
 header-byte-spec =
     tie.close
-    (tie.spec
-    slice-write-store
-    enter-body-requires
-    add-go-on
-    go-on-requires
-    same-length
-    returns
-    same-length-2
+    (tie.spec (λ c. search needs) (λ c κs. search needs) (λ c. search needs) (λ c κs. search needs) (λ c. search needs) returns (λ c. search needs)
     returns-2)

@@ -6,18 +6,6 @@ use borrow.Author.Needs.{needs}
 use Rattle.mdu.proofs.receiver.hunt.Statement.{statement}
 use Rattle.mdu.proofs.receiver.hunt.Tie as tie
 
-slice-write-store : tie.Need-slice-write-store
-slice-write-store c = search needs
-
-reopen-requires : tie.Need-reopen-requires
-reopen-requires c κs = search needs
-
-add-noise-requires : tie.Need-add-noise-requires
-add-noise-requires c κs = search needs
-
-same-length : tie.Need-same-length
-same-length c = search needs
-
 returns : tie.Need-returns
 returns c =
     let a = c .before .before .before .args in
@@ -33,5 +21,4 @@ returns-2 c =
 
 pub hunt-spec : {M : Type 1} → statement M
 hunt-spec =
-    tie.close
-    (tie.spec slice-write-store reopen-requires add-noise-requires same-length returns returns-2)
+    tie.close (tie.spec (λ c. search needs) (λ c κs. search needs) (λ c κs. search needs) (λ c. search needs) returns returns-2)

@@ -6,17 +6,11 @@ use borrow.Author.Needs.{needs}
 use Rattle.mdu.proofs.receiver.is_known.Statement.{statement}
 use Rattle.mdu.proofs.receiver.is_known.Tie as tie
 
-is-known-requires : tie.Need-is-known-requires
-is-known-requires c κs = search needs
-
 returns : tie.Need-returns
 returns c = simp (sym (c .before .before .before .is-known .ensures) ∙ c .before .before .if1 .taken, eq-eqb _ _ (c .if2 .taken))
 
 returns-2 : tie.Need-returns-2
 returns-2 c = simp (sym (c .before .before .before .before .is-known .ensures) ∙ c .before .before .before .if1 .taken, ne-eqb _ _ (c .before .if2 .left), lt-ltb _ _ (c .if3 .taken))
-
-length-ok-requires : tie.Need-length-ok-requires
-length-ok-requires c κs = search needs
 
 add-result : tie.Need-add-result
 add-result c = omega (arith, length-most (c .before .before .before .before .before .before .before .before .args .state .length) (sym (c .before .length-ok .ensures) ∙ c .if4 .taken))
@@ -36,13 +30,4 @@ returns-5 c = simp (sym (c .before .is-known .ensures) ∙ c .if1 .left)
 
 pub is-known-spec : {M : Type 1} → statement M
 is-known-spec =
-    tie.close
-    (tie.spec
-    is-known-requires
-    returns
-    returns-2
-    length-ok-requires
-    add-result
-    returns-3
-    returns-4
-    returns-5)
+    tie.close (tie.spec (λ c κs. search needs) returns returns-2 (λ c κs. search needs) add-result returns-3 returns-4 returns-5)

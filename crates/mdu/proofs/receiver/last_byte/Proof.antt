@@ -8,18 +8,6 @@ use borrow.Author.Needs.{needs}
 use Rattle.mdu.proofs.receiver.last_byte.Statement.{statement}
 use Rattle.mdu.proofs.receiver.last_byte.Tie as tie
 
-slice-write-store : tie.Need-slice-write-store
-slice-write-store c = search needs
-
-finish-frame-requires : tie.Need-finish-frame-requires
-finish-frame-requires c κs = search needs
-
-end-requires : tie.Need-end-requires
-end-requires c κs = search needs
-
-same-length : tie.Need-same-length
-same-length c = search needs
-
 returns : tie.Need-returns
 returns c =
     let s = c .before .before .before .before .before in
@@ -33,4 +21,4 @@ returns c =
 
 pub last-byte-spec : {M : Type 1} → statement M
 last-byte-spec =
-    tie.close (tie.spec slice-write-store finish-frame-requires end-requires same-length returns)
+    tie.close (tie.spec (λ c. search needs) (λ c κs. search needs) (λ c κs. search needs) (λ c. search needs) returns)

@@ -8,48 +8,6 @@ use borrow.Author.Needs.{needs}
 use Rattle.mdu.proofs.receiver.pass_body.Statement.{statement}
 use Rattle.mdu.proofs.receiver.pass_body.Tie as tie
 
-sub-least : tie.Need-sub-least
-sub-least c = search needs
-
-add-least : tie.Need-add-least
-add-least c = search needs
-
-sub-least-2 : tie.Need-sub-least-2
-sub-least-2 c = search needs
-
-least-requires : tie.Need-least-requires
-least-requires c κs = search needs
-
-add-end : tie.Need-add-end
-add-end c = search needs
-
-sub-put-bytes : tie.Need-sub-put-bytes
-sub-put-bytes c = search needs
-
-part-put-bytes-start : tie.Need-part-put-bytes-start
-part-put-bytes-start c = search needs
-
-part-put-bytes-end : tie.Need-part-put-bytes-end
-part-put-bytes-end c = search needs
-
-put-bytes-requires : tie.Need-put-bytes-requires
-put-bytes-requires c κs = search needs
-
-cast-wrapping-add-u32 : tie.Need-cast-wrapping-add-u32
-cast-wrapping-add-u32 c = search needs
-
-wrapping-add-u32-requires : tie.Need-wrapping-add-u32-requires
-wrapping-add-u32-requires c κs = search needs
-
-add-reopen : tie.Need-add-reopen
-add-reopen c = search needs
-
-reopen-requires : tie.Need-reopen-requires
-reopen-requires c κs = search needs
-
-same-length : tie.Need-same-length
-same-length c = search needs
-
 -- `least` promises that the piece has the n bytes and that the frame's last byte is not among them; `put_bytes` stores them,
 -- and `wrapping_add_u32` adds them to the bytes of the open frame
 returns : tie.Need-returns
@@ -70,19 +28,6 @@ returns c =
 pub pass-body-spec : {M : Type 1} → statement M
 pass-body-spec =
     tie.close
-    (tie.spec
-    sub-least
-    add-least
-    sub-least-2
-    least-requires
-    add-end
-    sub-put-bytes
-    part-put-bytes-start
-    part-put-bytes-end
-    put-bytes-requires
-    cast-wrapping-add-u32
-    wrapping-add-u32-requires
-    add-reopen
-    reopen-requires
-    same-length
-    returns)
+    (tie.spec (λ c. search needs) (λ c. search needs) (λ c. search needs) (λ c κs. search needs) (λ c. search needs) (λ c. search needs)
+    (λ c. search needs) (λ c. search needs) (λ c κs. search needs) (λ c. search needs) (λ c κs. search needs) (λ c. search needs)
+    (λ c κs. search needs) (λ c. search needs) returns)

@@ -4,12 +4,6 @@ use borrow.Author.Needs.{needs}
 use Rattle.mdu.proofs.receiver.step.Statement.{statement}
 use Rattle.mdu.proofs.receiver.step.Tie as tie
 
-hunt-requires : tie.Need-hunt-requires
-hunt-requires c κs = search needs
-
-same-length : tie.Need-same-length
-same-length c = search needs
-
 returns : tie.Need-returns
 returns c =
     let e = eq-eqb _ _ (c .before .before .before .before .if1 .taken) in
@@ -21,9 +15,6 @@ header-byte-requires c κs =
     let s = c .before .before .before .before .before .before .before in
     let o = c .before .before .before .if1 .left in
     (record { mode = known-mode (s .args .state) (s .pre .0) o; room = s .pre .1 }, c .before .if2 .taken)
-
-same-length-2 : tie.Need-same-length-2
-same-length-2 c = search needs
 
 returns-2 : tie.Need-returns-2
 returns-2 c =
@@ -40,9 +31,6 @@ last-byte-requires c κs =
     let l = c .before .if2 .left in
     (record { mode = known-mode (s .args .state) (s .pre .0) o; room = s .pre .1 }, known-body (s .args .state) (s .pre .0) o l, s .pre .2 l)
 
-same-length-3 : tie.Need-same-length-3
-same-length-3 c = search needs
-
 returns-3 : tie.Need-returns-3
 returns-3 c =
     let n = ne-eqb _ _ (c .before .before .before .before .before .before .if1 .left) in
@@ -53,13 +41,5 @@ returns-3 c =
 pub step-spec : {M : Type 1} → statement M
 step-spec =
     tie.close
-    (tie.spec
-    hunt-requires
-    same-length
-    returns
-    header-byte-requires
-    same-length-2
-    returns-2
-    last-byte-requires
-    same-length-3
-    returns-3)
+    (tie.spec (λ c κs. search needs) (λ c. search needs) returns header-byte-requires (λ c. search needs) returns-2 last-byte-requires
+    (λ c. search needs) returns-3)

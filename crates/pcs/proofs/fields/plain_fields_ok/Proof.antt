@@ -7,21 +7,6 @@ use Rattle.pcs.proofs.And.{joined}
 use Rattle.pcs.proofs.fields.plain_fields_ok.Statement.{statement}
 use Rattle.pcs.proofs.fields.plain_fields_ok.Tie as tie
 
-receiver-ok-requires : tie.Need-receiver-ok-requires
-receiver-ok-requires c κs = search needs
-
-plain-ok-requires : tie.Need-plain-ok-requires
-plain-ok-requires c κs = search needs
-
-plain-ok-requires-2 : tie.Need-plain-ok-requires-2
-plain-ok-requires-2 c κs = search needs
-
-plain-ok-requires-3 : tie.Need-plain-ok-requires-3
-plain-ok-requires-3 c κs = search needs
-
-plain-ok-requires-4 : tie.Need-plain-ok-requires-4
-plain-ok-requires-4 c κs = search needs
-
 returns : tie.Need-returns
 returns c =
     let t = c .before .before .before .before in
@@ -43,11 +28,4 @@ returns-2 c =
 pub plain-fields-ok-spec : {M : Type 1} → statement M
 plain-fields-ok-spec =
     tie.close
-    (tie.spec
-    receiver-ok-requires
-    plain-ok-requires
-    plain-ok-requires-2
-    plain-ok-requires-3
-    plain-ok-requires-4
-    returns
-    returns-2)
+    (tie.spec (λ c κs. search needs) (λ c κs. search needs) (λ c κs. search needs) (λ c κs. search needs) (λ c κs. search needs) returns returns-2)

@@ -3,9 +3,6 @@ use borrow.Author.Needs.{needs}
 use Rattle.pcs.proofs.fields.receiver_ok.Statement.{statement}
 use Rattle.pcs.proofs.fields.receiver_ok.Tie as tie
 
-plain-ok-requires : tie.Need-plain-ok-requires
-plain-ok-requires c κs = search needs
-
 returns : tie.Need-returns
 returns c = rw (sym (c .before .plain-ok .ensures) ∙ c .if1 .taken) (c .if1 .taken)
 
@@ -13,4 +10,4 @@ returns-2 : tie.Need-returns-2
 returns-2 c = rw (sym (c .before .plain-ok .ensures) ∙ c .if1 .left)
 
 pub receiver-ok-spec : {M : Type 1} → statement M
-receiver-ok-spec = tie.close (tie.spec plain-ok-requires returns returns-2)
+receiver-ok-spec = tie.close (tie.spec (λ c κs. search needs) returns returns-2)

@@ -11,12 +11,6 @@ use Rattle.pcs.proofs.And.{joined}
 use Rattle.pcs.proofs.writer.may_send.Statement.{statement}
 use Rattle.pcs.proofs.writer.may_send.Tie as tie
 
-plain-fields-ok-requires : tie.Need-plain-fields-ok-requires
-plain-fields-ok-requires c κs = search needs
-
-kind-ok-requires : tie.Need-kind-ok-requires
-kind-ok-requires c κs = search needs
-
 returns : tie.Need-returns
 returns c =
     let s = c .before .before .before .before in
@@ -32,4 +26,4 @@ returns-2 c =
     joined {b = leb (length d) 1024} v (inr (c .if2 .left, refl)) ∙ simp and-assoc
 
 pub may-send-spec : {M : Type 1} → statement M
-may-send-spec = tie.close (tie.spec plain-fields-ok-requires kind-ok-requires returns returns-2)
+may-send-spec = tie.close (tie.spec (λ c κs. search needs) (λ c κs. search needs) returns returns-2)

@@ -15,21 +15,6 @@ use Rattle.pcs.proofs.Written.{parts-written}
 use Rattle.pcs.proofs.writer.put_frame.Statement.{statement}
 use Rattle.pcs.proofs.writer.put_frame.Tie as tie
 
-put-header-requires : tie.Need-put-header-requires
-put-header-requires c κs = search needs
-
-pack-into-requires : tie.Need-pack-into-requires
-pack-into-requires c κs = search needs
-
-add-put-end : tie.Need-add-put-end
-add-put-end c = search needs
-
-put-end-requires : tie.Need-put-end-requires
-put-end-requires c κs = search needs
-
-same-length : tie.Need-same-length
-same-length c = search needs
-
 returns : tie.Need-returns
 returns c =
     let s = c .before .before .before .before .before .before .before .before .before .before .before .before .before .before in
@@ -48,11 +33,4 @@ returns c =
 
 pub put-frame-spec : {M : Type 1} → statement M
 put-frame-spec =
-    tie.close
-    (tie.spec
-    put-header-requires
-    pack-into-requires
-    add-put-end
-    put-end-requires
-    same-length
-    returns)
+    tie.close (tie.spec (λ c κs. search needs) (λ c κs. search needs) (λ c. search needs) (λ c κs. search needs) (λ c. search needs) returns)

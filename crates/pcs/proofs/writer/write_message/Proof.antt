@@ -11,23 +11,11 @@ use Rattle.pcs.proofs.Written.{frame-length}
 use Rattle.pcs.proofs.writer.write_message.Statement.{statement}
 use Rattle.pcs.proofs.writer.write_message.Tie as tie
 
-may-send-requires : tie.Need-may-send-requires
-may-send-requires c κs = search needs
-
-packed-length-requires : tie.Need-packed-length-requires
-packed-length-requires c κs = search needs
-
-add-end : tie.Need-add-end
-add-end c = search needs
-
 put-frame-requires : tie.Need-put-frame-requires
 put-frame-requires c κs =
     let a = c .before .before .before .before .before .before .before .args in
     let s = sendable (withData (a .message) (a .«data» .now)) (sym (c .before .before .before .before .may-send .ensures) ∙ c .before .before .before .if1 .taken) in
     (kind-most (a .message .kind) (length (a .«data» .now)) (s .kind), s .most, c .before .before .packed-length .ensures, c .before .if2 .taken)
-
-same-length : tie.Need-same-length
-same-length c = search needs
 
 returns : tie.Need-returns
 returns c =
@@ -51,12 +39,4 @@ returns-3 c = rw (sym (c .before .may-send .ensures) ∙ c .if1 .left)
 pub write-message-spec : {M : Type 1} → statement M
 write-message-spec =
     tie.close
-    (tie.spec
-    may-send-requires
-    packed-length-requires
-    add-end
-    put-frame-requires
-    same-length
-    returns
-    returns-2
-    returns-3)
+    (tie.spec (λ c κs. search needs) (λ c κs. search needs) (λ c. search needs) put-frame-requires (λ c. search needs) returns returns-2 returns-3)

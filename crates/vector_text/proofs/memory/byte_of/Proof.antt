@@ -2,32 +2,8 @@ use borrow.Author.Needs.{needs}
 use Rattle.vector_text.proofs.memory.byte_of.Statement.{statement}
 use Rattle.vector_text.proofs.memory.byte_of.Tie as tie
 
-enum-told : tie.Need-enum-told
-enum-told c = search needs
-
-mul-result : tie.Need-mul-result
-mul-result c = search needs
-
-add-result : tie.Need-add-result
-add-result c = search needs
-
-cast-result : tie.Need-cast-result
-cast-result c = search needs
-
-enum-told-2 : tie.Need-enum-told-2
-enum-told-2 c = search needs
-
-enum-told-3 : tie.Need-enum-told-3
-enum-told-3 c = search needs
-
-cast-result-2 : tie.Need-cast-result-2
-cast-result-2 c = search needs
-
 returns : tie.Need-returns
 returns c = rw (c .enum-told .given .1)
-
-returns-2 : tie.Need-returns-2
-returns-2 c = search needs
 
 returns-3 : tie.Need-returns-3
 returns-3 c = rw (c .enum-told3 .given .1)
@@ -35,14 +11,5 @@ returns-3 c = rw (c .enum-told3 .given .1)
 pub byte-of-spec : {M : Type 1} → statement M
 byte-of-spec =
     tie.close
-    (tie.spec
-    enum-told
-    mul-result
-    add-result
-    cast-result
-    enum-told-2
-    enum-told-3
-    cast-result-2
-    returns
-    returns-2
-    returns-3)
+    (tie.spec (λ c. search needs) (λ c. search needs) (λ c. search needs) (λ c. search needs) (λ c. search needs) (λ c. search needs)
+    (λ c. search needs) returns (λ c. search needs) returns-3)

@@ -12,12 +12,6 @@ use Rattle.vector_text.proofs.Counted.{puts-so}
 use Rattle.vector_text.proofs.memory.copy.Statement.{statement}
 use Rattle.vector_text.proofs.memory.copy.Tie as tie
 
-copy-requires : tie.Need-copy-requires
-copy-requires c κs = search needs
-
-same-length : tie.Need-same-length
-same-length c = search needs
-
 returns : tie.Need-returns
 returns c =
     let a = c .before .before .before .before .before .before .before .args in
@@ -34,4 +28,4 @@ returns-2 c =
     (puts-so [] (now (a .out)) (now (a .out)) 0 (omega arith) refl refl)
 
 pub copy-spec : {M : Type 1} → statement M
-copy-spec = tie.close (tie.spec copy-requires same-length returns returns-2)
+copy-spec = tie.close (tie.spec (λ c κs. search needs) (λ c. search needs) returns returns-2)

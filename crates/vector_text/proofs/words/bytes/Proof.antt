@@ -11,33 +11,6 @@ use Rattle.vector_text.proofs.Line.{given-frame, given-run, given-same,
 use Rattle.vector_text.proofs.words.bytes.Statement.{statement}
 use Rattle.vector_text.proofs.words.bytes.Tie as tie
 
-word-requires : tie.Need-word-requires
-word-requires c κs = search needs
-
-first-of-requires : tie.Need-first-of-requires
-first-of-requires c κs = search needs
-
-copy-requires : tie.Need-copy-requires
-copy-requires c κs = search needs
-
-decimal-requires : tie.Need-decimal-requires
-decimal-requires c κs = search needs
-
-lay-requires : tie.Need-lay-requires
-lay-requires c κs = search needs
-
-decimal-requires-2 : tie.Need-decimal-requires-2
-decimal-requires-2 c κs = search needs
-
-lay-requires-2 : tie.Need-lay-requires-2
-lay-requires-2 c κs = search needs
-
-unhex-requires : tie.Need-unhex-requires
-unhex-requires c κs = search needs
-
-same-length : tie.Need-same-length
-same-length c = search needs
-
 -- `word`, `first_of` and the match tell the word's letter and so what `givenBy` is of it, and `copy` promises to store just that
 returns : tie.Need-returns
 returns c =
@@ -48,9 +21,6 @@ returns c =
     let letter = ap firstOf (sym it) ∙ sym (c .before .before .before .before .before .first-of .ensures) in
     let u = c .before .before .copy in
     subst (λ (run : List ℕ). PutAtStart run (now (a .out)) (u .last .1 .0) (u .result)) (sym (given-frame word (now (a .frame)) room (letter ∙ c .before .before .before .before .match .keys1))) (u .ensures)
-
-same-length-2 : tie.Need-same-length-2
-same-length-2 c = search needs
 
 returns-2 : tie.Need-returns-2
 returns-2 c =
@@ -63,9 +33,6 @@ returns-2 c =
     let count = c .before .before .before .before .decimal .ensures ∙ ap parsedDecimal it in
     subst (λ (run : List ℕ). PutAtStart run (now (a .out)) (u .last .1 .1 .0) (u .result)) (ap (λ (n : ℕ). laid runByte (min n room)) count ∙ sym (given-run word (now (a .frame)) room (letter ∙ c .before .before .before .before .before .match .keys2))) (u .ensures)
 
-same-length-3 : tie.Need-same-length-3
-same-length-3 c = search needs
-
 returns-3 : tie.Need-returns-3
 returns-3 c =
     let a = c .before .before .before .before .before .before .before .before .before .before .before .args in
@@ -76,9 +43,6 @@ returns-3 c =
     let u = c .before .before .lay2 in
     let count = c .before .before .before .before .decimal2 .ensures ∙ ap parsedDecimal it in
     subst (λ (run : List ℕ). PutAtStart run (now (a .out)) (u .last .1 .1 .0) (u .result)) (ap (λ (n : ℕ). laid sameByte (min n room)) count ∙ sym (given-same word (now (a .frame)) room (letter ∙ c .before .before .before .before .before .match .keys3))) (u .ensures)
-
-same-length-4 : tie.Need-same-length-4
-same-length-4 c = search needs
 
 -- the match leaves all three letters out, so `givenBy` is the word's bytes in hex, as far as there is room: what `unhex` stores
 returns-4 : tie.Need-returns-4
@@ -95,20 +59,6 @@ returns-4 c =
 pub bytes-spec : {M : Type 1} → statement M
 bytes-spec =
     tie.close
-    (tie.spec
-    word-requires
-    first-of-requires
-    copy-requires
-    decimal-requires
-    lay-requires
-    decimal-requires-2
-    lay-requires-2
-    unhex-requires
-    same-length
-    returns
-    same-length-2
-    returns-2
-    same-length-3
-    returns-3
-    same-length-4
-    returns-4)
+    (tie.spec (λ c κs. search needs) (λ c κs. search needs) (λ c κs. search needs) (λ c κs. search needs) (λ c κs. search needs)
+    (λ c κs. search needs) (λ c κs. search needs) (λ c κs. search needs) (λ c. search needs) returns (λ c. search needs) returns-2
+    (λ c. search needs) returns-3 (λ c. search needs) returns-4)

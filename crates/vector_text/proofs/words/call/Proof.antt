@@ -9,24 +9,6 @@ use borrow.Author.Needs.{needs}
 use Rattle.vector_text.proofs.words.call.Statement.{statement}
 use Rattle.vector_text.proofs.words.call.Tie as tie
 
-slice-aggregate-is : tie.Need-slice-aggregate-is
-slice-aggregate-is c = search needs
-
-is-requires : tie.Need-is-requires
-is-requires c κs = search needs
-
-start-requires : tie.Need-start-requires
-start-requires c κs = search needs
-
-sub-result : tie.Need-sub-result
-sub-result c = search needs
-
-part-result-start : tie.Need-part-result-start
-part-result-start c = search needs
-
-part-result-end : tie.Need-part-result-end
-part-result-end c = search needs
-
 returns : tie.Need-returns
 returns c =
     let line = now (c .before .before .before .before .before .before .args .line) in
@@ -40,12 +22,5 @@ returns-2 c = (λ e. absurd (true≢false (sym (c .before .is .ensures .1 e) ∙
 pub call-spec : {M : Type 1} → statement M
 call-spec =
     tie.close
-    (tie.spec
-    slice-aggregate-is
-    is-requires
-    start-requires
-    sub-result
-    part-result-start
-    part-result-end
-    returns
+    (tie.spec (λ c. search needs) (λ c κs. search needs) (λ c κs. search needs) (λ c. search needs) (λ c. search needs) (λ c. search needs) returns
     returns-2)

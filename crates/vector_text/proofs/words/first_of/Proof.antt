@@ -5,14 +5,8 @@ use Rattle.vector_text.proofs.Line.{first-none}
 use Rattle.vector_text.proofs.words.first_of.Statement.{statement}
 use Rattle.vector_text.proofs.words.first_of.Tie as tie
 
-shared-slice-read-result : tie.Need-shared-slice-read-result
-shared-slice-read-result c = search needs
-
-returns : tie.Need-returns
-returns c = search needs
-
 returns-2 : tie.Need-returns-2
 returns-2 c = first-none (now (c .before .args .word)) (omega arith)
 
 pub first-of-spec : {M : Type 1} → statement M
-first-of-spec = tie.close (tie.spec shared-slice-read-result returns returns-2)
+first-of-spec = tie.close (tie.spec (λ c. search needs) (λ c. search needs) returns-2)

@@ -6,9 +6,6 @@ use Rattle.vector_text.proofs.Line.{lies-in, lies-out}
 use Rattle.vector_text.proofs.words.hex_digit.Statement.{statement}
 use Rattle.vector_text.proofs.words.hex_digit.Tie as tie
 
-sub-result : tie.Need-sub-result
-sub-result c = search needs
-
 returns : tie.Need-returns
 returns c =
     let b = c .before .before .args .b in
@@ -28,4 +25,4 @@ returns-3 c =
     (simp (out, past), omega arith)
 
 pub hex-digit-spec : {M : Type 1} → statement M
-hex-digit-spec = tie.close (tie.spec sub-result returns returns-2 returns-3)
+hex-digit-spec = tie.close (tie.spec (λ c. search needs) returns returns-2 returns-3)

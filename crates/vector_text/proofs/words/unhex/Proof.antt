@@ -19,51 +19,15 @@ Inv-loop word out₀ most n₀ out n =
 abbrev μ-loop : tie.MeasureT-loop
 μ-loop word out₀ most n₀ out n = most - n
 
-least-requires : tie.Need-least-requires Inv-loop μ-loop
-least-requires c κs = search needs
-
 loop-holds : tie.Need-loop-holds Inv-loop μ-loop
 loop-holds c =
     let a = c .before .before .before .args in
     (c .least .ensures, stored-none (omega (arith, whole-length (now (a .word)) (length (now (a .out))))))
 
-mul-hex-digit : tie.Need-mul-hex-digit Inv-loop μ-loop
-mul-hex-digit c = search needs
-
-shared-slice-read-hex-digit : tie.Need-shared-slice-read-hex-digit Inv-loop μ-loop
-shared-slice-read-hex-digit c = search needs
-
-hex-digit-requires : tie.Need-hex-digit-requires Inv-loop μ-loop
-hex-digit-requires c κs = search needs
-
-mul-out : tie.Need-mul-out Inv-loop μ-loop
-mul-out c = search needs
-
-mul-hex-digit-2 : tie.Need-mul-hex-digit-2 Inv-loop μ-loop
-mul-hex-digit-2 c = search needs
-
-add-hex-digit : tie.Need-add-hex-digit Inv-loop μ-loop
-add-hex-digit c = search needs
-
-shared-slice-read-hex-digit-2 : tie.Need-shared-slice-read-hex-digit-2 Inv-loop μ-loop
-shared-slice-read-hex-digit-2 c = search needs
-
-hex-digit-requires-2 : tie.Need-hex-digit-requires-2 Inv-loop μ-loop
-hex-digit-requires-2 c κs = search needs
-
-add-out : tie.Need-add-out Inv-loop μ-loop
-add-out c = search needs
-
 slice-write-out : tie.Need-slice-write-out Inv-loop μ-loop
 slice-write-out c =
     let l = c .before .before .before .before .before .loop in
     omega (arith, l .inv .0, l .inv .1 .long)
-
-add-n : tie.Need-add-n Inv-loop μ-loop
-add-n c = search needs
-
-loop-less : tie.Need-loop-less Inv-loop μ-loop
-loop-less c = search needs
 
 -- the two promises of `hex_digit` together give the byte at place n of the word's bytes
 loop-again : tie.Need-loop-again Inv-loop μ-loop
@@ -91,23 +55,6 @@ returns c =
 pub unhex-spec : {M : Type 1} → statement M
 unhex-spec =
     tie.close
-    (tie.spec
-    Inv-loop
-    μ-loop
-    least-requires
-    loop-holds
-    mul-hex-digit
-    shared-slice-read-hex-digit
-    hex-digit-requires
-    mul-out
-    mul-hex-digit-2
-    add-hex-digit
-    shared-slice-read-hex-digit-2
-    hex-digit-requires-2
-    add-out
-    slice-write-out
-    add-n
-    loop-less
-    loop-again
-    same-length
-    returns)
+    (tie.spec Inv-loop μ-loop (λ c κs. search needs) loop-holds (λ c. search needs) (λ c. search needs) (λ c κs. search needs) (λ c. search needs)
+    (λ c. search needs) (λ c. search needs) (λ c. search needs) (λ c κs. search needs) (λ c. search needs) slice-write-out (λ c. search needs)
+    (λ c. search needs) loop-again same-length returns)

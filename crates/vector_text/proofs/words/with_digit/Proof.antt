@@ -8,15 +8,6 @@ use Rattle.vector_text.proofs.Line.{lies-in, lies-out}
 use Rattle.vector_text.proofs.words.with_digit.Statement.{statement}
 use Rattle.vector_text.proofs.words.with_digit.Tie as tie
 
-mul-result : tie.Need-mul-result
-mul-result c = search needs
-
-wide-requires : tie.Need-wide-requires
-wide-requires c κs = search needs
-
-add-result : tie.Need-add-result
-add-result c = search needs
-
 returns : tie.Need-returns
 returns c =
     let a = c .before .before .before .args in
@@ -28,4 +19,4 @@ returns-2 c =
     simp (lies-out 48 57 b (λ l h. ⊎-elim (λ w. omega (arith, leb-false b 57 (w .1 .left), h)) (λ w. omega (arith, w .left, l)) (c .if1 .came)))
 
 pub with-digit-spec : {M : Type 1} → statement M
-with-digit-spec = tie.close (tie.spec mul-result wide-requires add-result returns returns-2)
+with-digit-spec = tie.close (tie.spec (λ c. search needs) (λ c κs. search needs) (λ c. search needs) returns returns-2)

@@ -4,21 +4,6 @@ use Rattle.vector_text.proofs.Line.{word-is}
 use Rattle.vector_text.proofs.words.word.Statement.{statement}
 use Rattle.vector_text.proofs.words.word.Tie as tie
 
-start-requires : tie.Need-start-requires
-start-requires c κs = search needs
-
-find-requires : tie.Need-find-requires
-find-requires c κs = search needs
-
-sub-result : tie.Need-sub-result
-sub-result c = search needs
-
-part-result-start : tie.Need-part-result-start
-part-result-start c = search needs
-
-part-result-end : tie.Need-part-result-end
-part-result-end c = search needs
-
 returns : tie.Need-returns
 returns c =
     let a = c .before .before .before .before .args in
@@ -27,5 +12,4 @@ returns c =
 
 pub word-spec : {M : Type 1} → statement M
 word-spec =
-    tie.close
-    (tie.spec start-requires find-requires sub-result part-result-start part-result-end returns)
+    tie.close (tie.spec (λ c κs. search needs) (λ c κs. search needs) (λ c. search needs) (λ c. search needs) (λ c. search needs) returns)

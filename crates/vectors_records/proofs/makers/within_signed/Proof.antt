@@ -4,11 +4,8 @@ use borrow.Author.Needs.{needs}
 use Rattle.vectors_records.proofs.makers.within_signed.Statement.{statement}
 use Rattle.vectors_records.proofs.makers.within_signed.Tie as tie
 
-least-requires : tie.Need-least-requires
-least-requires c κs = search needs
-
 returns : tie.Need-returns
 returns c = counted _ _ (omega arith)
 
 pub within-signed-spec : {M : Type 1} → statement M
-within-signed-spec = tie.close (tie.spec least-requires returns)
+within-signed-spec = tie.close (tie.spec (λ c κs. search needs) returns)

@@ -9,11 +9,5 @@ cast-result c = cast-ok _ _ (negative _ (c .before .fits .value) (c .if1 .taken)
 cast-result-2 : tie.Need-cast-result-2
 cast-result-2 c = cast-ok _ _ (positive _ (c .before .fits .value) (c .if1 .left)) (omega arith)
 
-returns : tie.Need-returns
-returns c = tt
-
-returns-2 : tie.Need-returns-2
-returns-2 c = tt
-
 pub magnitude-spec : {M : Type 1} → statement M
-magnitude-spec = tie.close (tie.spec cast-result cast-result-2 returns returns-2)
+magnitude-spec = tie.close (tie.spec cast-result cast-result-2 (λ c. tt) (λ c. tt))
