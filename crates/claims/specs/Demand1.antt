@@ -1,11 +1,11 @@
 -- Of demand 1, over all four links, what the contracts alone do not show at once: which numbers a receiver gives, exactly, and what it leaves in the
 -- store, place by place.
 use Rattle.framing.specs.Refusals.{GivesExactly, ReceiveGives}
-use Rattle.claims.specs.Links.{Which, linkOf, numbersOf, StoresGathered}
+use Rattle.claims.specs.Links.{Which, linkOf, streamNumbersOf, StoresGathered}
 
 pub record Demand1Of (w : Which) : Type 0 where
-  pub gives-exactly : GivesExactly (linkOf w) (numbersOf w)
-  pub receive-gives : ReceiveGives (linkOf w) (numbersOf w)
+  pub gives-exactly : GivesExactly (linkOf w) (streamNumbersOf w)
+  pub receive-gives : ReceiveGives (linkOf w) (streamNumbersOf w)
   pub stores-gathered : StoresGathered w
 
 abbrev pub Demand1 : Type 0

@@ -25,11 +25,11 @@ linkOf dle = Dle.link
 linkOf expansion = Expansion.link
 
 -- the numbers that a stream gives on each
-abbrev pub numbersOf : Which → List ℕ
-numbersOf pcs = PcsClaims.streamNumbers
-numbersOf mdu = MduClaims.streamNumbers
-numbersOf dle = DleClaims.streamNumbers
-numbersOf expansion = ExpansionClaims.streamNumbers
+abbrev pub streamNumbersOf : Which → List ℕ
+streamNumbersOf pcs = PcsClaims.streamNumbers
+streamNumbersOf mdu = MduClaims.streamNumbers
+streamNumbersOf dle = DleClaims.streamNumbers
+streamNumbersOf expansion = ExpansionClaims.streamNumbers
 
 -- what a call leaves in the store on each
 abbrev pub StoresGathered : Which → Type 0

@@ -15,7 +15,8 @@ use Rattle.runs.specs.Runs.{over}
 use Rattle.runs.proofs.Run.{more-count, more-over}
 use Rattle.runs.proofs.Bytes.{part-rest}
 use Rattle.framing.specs.Link.{Link, Lent, stepOn}
-use Rattle.framing.specs.Passing.{Leads, Gathers}
+use Rattle.framing.specs.Passing.{Leads}
+use Rattle.framing.proofs.Passing.{Gathers}
 use Rattle.framing.proofs.Passing.{leads-then, leads-byte, gathers-none, gathers-then}
 use Rattle.escape.specs.Code.{Code, Meaning, byte, waits, start, end, wrong, readFirst, readSecond, unhideUpTo, unhideInto}
 

@@ -14,8 +14,17 @@ use Rattle.runs.proofs.Bytes.{part-rest}
 use Rattle.runs.proofs.Before.{before-within, before-not}
 use Rattle.runs.proofs.Run.{sets-more}
 use Rattle.framing.specs.Link.{Link, Lent, nothing, told, stepOn}
-use Rattle.framing.specs.Passing.{Leads, Gathers}
+use Rattle.framing.specs.Passing.{Leads}
 use Rattle.framing.proofs.Loop.{passed-more}
+
+-- the states of an open frame by the counts of gathered bytes, of open wire bytes and of noise: from place i, with m bytes gathered in the store,
+-- a call goes on without an event to place j, with n gathered in the store after, whatever the other counts
+module _ (L : Link) where
+  pub record Gathers (opened : ℕ → ℕ → ℕ → L .State) (piece store : List ℕ) (m i : ℕ) (after : List ℕ) (n j : ℕ) : Type 0 where
+    pub onward : i ≤ j
+    pub within : j ≤ length piece
+    pub same-length : length after ≡ length store
+    pub passes : (o z : ℕ) → o < 2 ^ 32 → Leads L piece (opened m o z, store) i (opened n ((o + (j - i)) % 2 ^ 32) z, after) j
 
 module _ (L : Link) (piece : List ℕ) where
   pub leads-none : (c : Lent L) (i : ℕ) → i ≤ length piece → Leads L piece c i c i

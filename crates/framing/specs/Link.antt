@@ -46,6 +46,7 @@ pub data Told (N : Type 0) : Type 0 where
   accepted : N → Told N
   refused : ℕ → Told N
 
+-- whether it is an event, for the private functions of the links
 abbrev pub isEvent : {N : Type 0} → Told N → Bool
 isEvent nothing = false
 isEvent (accepted v) = true

@@ -1,5 +1,5 @@
 -- Bytes of a piece that a call of a receiver passes without an event. This serves the contracts of private functions of the links only.
-use Prim.Native.Nat.{ℕ, _+_, _-_, _%_, _^_, _≤_, _<_}
+use Prim.Native.Nat.{ℕ, _≤_}
 use mathlib.Core.Path.{_≡_}
 use mathlib.Core.List.{List}
 use lib.ListN.{length, drop}
@@ -17,11 +17,3 @@ module _ (L : Link) where
     pub within : j ≤ length piece
     pub same-length : length (d .1) ≡ length (c .1)
     pub passes : (c₀ : Lent L) → Passed c₀ piece c i → Passed c₀ piece d j
-
-  -- the states of an open frame by the counts of gathered bytes, of open wire bytes and of noise: from place i, with m bytes gathered in the
-  -- store, a call goes on without an event to place j, with n gathered in the store after, whatever the other counts
-  pub record Gathers (opened : ℕ → ℕ → ℕ → L .State) (piece store : List ℕ) (m i : ℕ) (after : List ℕ) (n j : ℕ) : Type 0 where
-    pub onward : i ≤ j
-    pub within : j ≤ length piece
-    pub same-length : length after ≡ length store
-    pub passes : (o z : ℕ) → o < 2 ^ 32 → Leads piece (opened m o z, store) i (opened n ((o + (j - i)) % 2 ^ 32) z, after) j

@@ -39,7 +39,7 @@ responderOf a = record { handed = a .handed; last = a .last }
 -- each case of a reply: none, or a message of this id, type and address, with repeat 0 and no data
 abbrev pub replyOf : Reply → Option Frame.Message
 replyOf reply.Nothing = none
-replyOf (reply.Send id kind address) = some (record { id = id; kind = kind; repeat = 0; address = address; payload = [] })
+replyOf (reply.Send id kind address) = some (Frame.withFields id kind 0 address [])
 
 -- the answer of the responding end: the reply, whether the request is handed out, the state after
 abbrev pub responseOf : Response → Responder.Response

@@ -25,7 +25,7 @@ freshResponder = record { handed = false; last = 0 }
 
 -- a reply has repeat 0 and no data; its address is 0 from a board, and from the head the one that arrived
 abbrev pub reply : (head : Bool) → (id kind address : ℕ) → Frame.Message
-reply head id kind address = record { id = id; kind = kind; repeat = 0; address = cond head address 0; payload = [] }
+reply head id kind address = Frame.withFields id kind 0 (cond head address 0) []
 
 -- no reply, and nothing handed out
 abbrev pub silent : Responder → Response

@@ -6,10 +6,12 @@ ghost use mathlib.Core.List.{[], _∷_};
 ghost use Rattle.framing.specs.Answer.{outcomeOf};
 ghost use Rattle.framing.specs.Whole.{settle, exactly};
 ghost use Rattle.pcs.specs.Contract as Pcs;
+ghost use Rattle.pcs.specs.Frame as PcsFrame;
 ghost use Rattle.mdu.specs.Contract as Mdu;
 ghost use Rattle.dle.specs.Contract as Dle;
 ghost use Rattle.dle.specs.Frame.{content, error as errorMessage};
 ghost use Rattle.expansion.specs.Contract as Expansion;
+ghost use Rattle.expansion.specs.Frame as ExpansionFrame;
 ghost use Rattle.host.specs.Read.{packed, encode, reads, pcsCode, mduCode, dleCode, expansionCode};
 ghost use Rattle.host.specs.Write.{int32Of, writesTo};
 ghost use Rattle.host.specs.Steps.{Short};
@@ -57,15 +59,8 @@ pub extern "C" fn linebox_pcs_write(
     data: &[u8],
     out: &mut [u8],
 ) -> i32
-    ensures { λ r. ⌜ (r, now (out .exit)) ≡ writesTo Pcs.link (record {
-      receiver = receiver;
-      sender = sender;
-      kind = kind;
-      number = number;
-      sender-port = «sender_port»;
-      receiver-port = «receiver_port»;
-      payload = now («data» .entry);
-    }) (now (out .entry)) ⌝ }
+    ensures { λ r. ⌜ (r, now (out .exit)) ≡ writesTo Pcs.link
+        (PcsFrame.withFields receiver sender kind number «sender_port» «receiver_port» (now («data» .entry))) (now (out .entry)) ⌝ }
 {
     int32_of(pcs::write(
         receiver,
@@ -114,7 +109,7 @@ pub extern "C" fn linebox_expansion_write(
     out: &mut [u8],
 ) -> i32
     ensures { λ r. ⌜ (r, now (out .exit)) ≡ writesTo Expansion.link
-        (record { id = id; kind = kind; repeat = repeat; address = address; payload = now («data» .entry) }) (now (out .entry)) ⌝ }
+        (ExpansionFrame.withFields id kind repeat address (now («data» .entry))) (now (out .entry)) ⌝ }
 {
     int32_of(expansion::write(id, kind, repeat, address, data, out))
 }

@@ -15,7 +15,8 @@ use Rattle.runs.proofs.Run.{more-count, more-over}
 use Rattle.framing.specs.Segment.{Segment, eventOf}
 use Rattle.framing.specs.State.{afterNoise}
 use Rattle.framing.specs.Link.{stepOn}
-use Rattle.framing.specs.Passing.{Leads, Gathers}
+use Rattle.framing.specs.Passing.{Leads}
+use Rattle.framing.proofs.Passing.{Gathers}
 use Rattle.framing.specs.declared.State as Base
 use Rattle.framing.proofs.States.{noise-mode, noise-next}
 use Rattle.framing.proofs.Passing.{leads-none, leads-before, gathers-run, gathers-leads}

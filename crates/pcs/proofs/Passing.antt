@@ -14,7 +14,8 @@ use Rattle.runs.proofs.Run.{more-count, more-over}
 use Rattle.framing.specs.Segment.{Segment, Event, eventOf}
 use Rattle.framing.specs.State.{afterNoise, stateAfter}
 use Rattle.framing.specs.Link.{Lent, stepOn}
-use Rattle.framing.specs.Passing.{Leads, Gathers}
+use Rattle.framing.specs.Passing.{Leads}
+use Rattle.framing.proofs.Passing.{Gathers}
 use Rattle.framing.specs.declared.State.{State}
 use Rattle.framing.proofs.States.{noise-mode, noise-next}
 use Rattle.framing.proofs.Passing.{leads-before, gathers-before}

@@ -1,7 +1,7 @@
 use Prim.Native.Nat.{_+_, _-_, _%_, _^_, _≤_, _<_}
 use mathlib.Core.Path.{_≡_, _∙_}
 use native.Mathlib.Omega.{arith}
-use Rattle.framing.specs.Passing.{Gathers}
+use Rattle.framing.proofs.Passing.{Gathers}
 use Rattle.framing.proofs.Passing.{gathers-leads}
 use Rattle.escape.proofs.Passing.{gathers-told}
 use Rattle.dle.specs.Rules.{size}
