@@ -10,11 +10,12 @@ use lib.Seq.{take-append-seam, take-suc}
 use borrow.Author.Tests.{le-leb}
 use Rattle.runs.specs.Runs.{Bytes, over}
 use Rattle.runs.proofs.Bytes.{bytes-left, bytes-right, bytes-append, bytes-take}
-use Rattle.runs.proofs.Cases.{by-test, by-eqb, by-ltb}
+use Rattle.runs.proofs.Cases.{by-eqb, by-ltb}
 use Rattle.framing.specs.Receiver.{Fed, feed, emit, last, join}
 use Rattle.framing.specs.Segment.{Segment, refusedFrame, Event, refusal, eventOf, wires}
-use Rattle.framing.specs.Link.{Lent, stepOn, callOn}
+use Rattle.framing.specs.Link.{Lent, stepOn, refuses, callOn}
 use Rattle.framing.specs.Claims.{segments}
+use Rattle.framing.proofs.Tests.{by-two}
 use Rattle.framing.proofs.Feed.{last-byte, used-some, used-le, events-append, last-append}
 use Rattle.framing.proofs.Segments.{Config, step, phase-last}
 use Rattle.framing.proofs.Lawful.{at, Counts, counts-last, driven, accounted}
@@ -97,9 +98,8 @@ feed-eight c piece e =
 
 pub refused-header : RefusedHeader
 refused-header c piece =
-    by-test (Kept c piece) (link .known (c .0))
-    (λ _. by-test (Kept c piece) (leb size (length (c .1))) (λ _. feed-eight c piece) (λ _ e. absurd (other 1 (λ q. omega arith) e)))
-    (λ _ e. absurd (other 12 (λ q. omega arith) e))
+    by-two (Kept c piece) (link .known (c .0)) (leb size (length (c .1))) 12 1 (feed (stepOn link) c piece) (λ n. refuses link n c) refl refl
+    (λ _ e. absurd (other 12 (λ q. omega arith) e)) (λ _ _ e. absurd (other 1 (λ q. omega arith) e)) (λ _ _. feed-eight c piece)
 
 -- the stream before the last byte that the call used leads to the phase in which that byte gives 8
 pub refused-as-sent : RefusedAsSent

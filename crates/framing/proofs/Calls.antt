@@ -1,30 +1,22 @@
 -- What a writer's calls leave on the wire tells which messages were sent: one claim over two lists of calls, for any link whose frames say
 -- themselves where they end.
-use Prim.Native.Nat.{ℕ, _+_, _≤_, _<_}
+use Prim.Native.Nat.{ℕ, _<_}
 use mathlib.Core.Path.{_≡_, refl, ap, sym, _∙_}
 use mathlib.Core.Logic.{_↔_}
 use mathlib.Core.Bool.{Bool, true}
 use mathlib.Core.List.{List, [], _∷_, _++_, append-assoc, append-cancel-left}
 use native.Mathlib.Omega.{arith}
 use lib.ListN.{length, length-append}
-use lib.Seq.{sets}
 use Rattle.runs.specs.Runs.{Begins}
-use Rattle.runs.proofs.Cases.{by-test, by-leb}
 use Rattle.runs.proofs.Run.{part-sets}
 use Rattle.runs.proofs.Begins.{begins-iff}
-use Rattle.framing.specs.Answer.{Outcome, done, refused, storedAt}
 use Rattle.framing.specs.Writer.{Call, writes, frames, keeps, leaves, kept, wire}
 use Rattle.framing.specs.Claims.{AllOf}
+use Rattle.framing.proofs.Stored.{by-writer}
 
 frames-append : {M : Type 0} (frame : M → List ℕ) (ms ns : List M) → frames frame (ms ++ ns) ≡ frames frame ms ++ frames frame ns
 frames-append frame [] ns = refl
 frames-append frame (m ∷ ms) ns = rw (frames-append frame ms ns) (sym (append-assoc (frame m) (frames frame ms) (frames frame ns)))
-
--- a run stored at the start, or refused
-stored-cases : (run memory : List ℕ) (Q : Outcome ℕ × List ℕ → Type 0) → (0 + length run ≤ length memory → Q (done (length run), sets memory 0 run))
-    → Q (refused 2, memory) → Q (storedAt run memory 0)
-unfolding storedAt
-stored-cases run memory Q h k = by-leb Q (0 + length run) (length memory) h (λ _. k)
 
 -- the wire has the frames of the kept messages, and those may all be sent
 module _ {M : Type 0} (ok : M → Bool) (frame : M → List ℕ) where
@@ -32,15 +24,13 @@ module _ {M : Type 0} (ok : M → Bool) (frame : M → List ℕ) where
   wire-more : (m : M) (memory bs : List ℕ) (ms : List M) → bs ≡ frames frame ms
       → leaves (writes ok frame m memory .1) (writes ok frame m memory .0) bs ≡ frames frame (keeps m (writes ok frame m memory .0) ms)
   wire-more m memory bs ms h =
-      by-test (λ (w : Outcome ℕ × List ℕ). leaves (w .1) (w .0) bs ≡ frames frame (keeps m (w .0) ms)) (ok m)
-      (λ _. stored-cases (frame m) memory (λ w. leaves (w .1) (w .0) bs ≡ frames frame (keeps m (w .0) ms))
-      (λ l. rw (part-sets memory 0 (frame m) l, h)) h) (λ _. h)
+      by-writer ok frame m memory (λ w. leaves (w .1) (w .0) bs ≡ frames frame (keeps m (w .0) ms)) (λ _. h) (λ _ _. h)
+      (λ _ l. rw (part-sets memory 0 (frame m) (omega arith), h))
 
   kept-more : (P : M → Type 0) (m : M) (memory : List ℕ) (ms : List M) → P m → AllOf (λ m. (ok m ≡ true) × P m) ms
       → AllOf (λ m. (ok m ≡ true) × P m) (keeps m (writes ok frame m memory .0) ms)
   kept-more P m memory ms t h =
-      by-test (λ (w : Outcome ℕ × List ℕ). AllOf (λ m. (ok m ≡ true) × P m) (keeps m (w .0) ms)) (ok m)
-      (λ e. stored-cases (frame m) memory (λ w. AllOf (λ m. (ok m ≡ true) × P m) (keeps m (w .0) ms)) (λ _. ((e, t), h)) h) (λ _. h)
+      by-writer ok frame m memory (λ w. AllOf (λ m. (ok m ≡ true) × P m) (keeps m (w .0) ms)) (λ _. h) (λ _ _. h) (λ e _. ((e, t), h))
 
   pub wire-kept : (cs : List (Call M)) → wire (writes ok frame) cs ≡ frames frame (kept (writes ok frame) cs)
   wire-kept [] = refl

@@ -18,7 +18,7 @@ use Rattle.framing.specs.Segment.{Segment, noise, refusedFrame, accepted
 use Rattle.framing.specs.Writer.{writes}
 use Rattle.framing.specs.Link.{Link, Lent, stepOn, callOn, told, heardIn, called}
 use Rattle.framing.specs.Claims.{segments, openAt, WritesFrame, ReadsBack, Canonical, CutAnywhere, Accounted}
-use Rattle.framing.proofs.Stored.{stored-done}
+use Rattle.framing.proofs.Stored.{stored-done, writes-stored}
 use Rattle.framing.proofs.Cutting.{Follows, cutting, feed-from, feed-follows}
 use Rattle.framing.proofs.Segments.{Config, step, wireOpt, Accepts, accepts-map, AllAccept, accept-at, wires-append, partition, all-accepted, phase-last, heard-events, noise-last}
 use Rattle.framing.proofs.Byte.{Reached, Taken, Takes}
@@ -56,7 +56,7 @@ over-length front store h = simp (length-append, length-drop) (omega arith)
 -- what the writer leaves is the frame
 written-frame : (L : Link) (m : L .Message) (memory : List ℕ) → L .ok m ≡ true → length (L .frame m) ≤ length memory
     → writes (L .ok) (L .frame) m memory ≡ (done (length (L .frame m)), sets memory 0 (L .frame m))
-written-frame L m memory o h = rw o (stored-done (L .frame m) memory 0 (omega arith))
+written-frame L m memory o h = writes-stored (L .ok) (L .frame) m memory o ∙ stored-done (L .frame m) memory 0 (omega arith)
 
 pub writes-frame : (L : Link) → WritesFrame L
 writes-frame L m memory o h =

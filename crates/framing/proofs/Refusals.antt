@@ -13,17 +13,18 @@ use borrow.Author.Tests.{eqb-true, ltb-true, lt-leb, le-leb}
 use Rattle.runs.specs.Runs.{Bytes}
 use Rattle.runs.proofs.Bytes.{bytes-one, bytes-more, bytes-append}
 use Rattle.runs.proofs.Cases.{and-both}
-use Rattle.framing.specs.Answer.{Outcome, storedAt}
 use Rattle.framing.specs.Answer as Answer
 use Rattle.framing.specs.Receiver.{Fed, emit, stop, feed, events}
 use Rattle.framing.specs.Segment.{Segment, noise, refusedFrame, acceptedFrame, Event, message, refusal, eventOf, heard}
-use Rattle.framing.specs.Link.{Link, Lent, refused, stepOn, callOn, told}
+use Rattle.framing.specs.Link.{Link, Lent, refused, stepOn, refuses, callOn, told}
 use Rattle.framing.specs.Claims.{AllOf, segments}
 use Rattle.framing.specs.Whole.{settle, exactly, readOn}
 use Rattle.framing.specs.Refusals.{isIn, StreamGives, GivesExactly, CallGives, ReceiveGives, ReadGives, ReadsGive, WritesGive}
 use Rattle.framing.proofs.Feed.{events-feed, Quiet, quiet-nil, quiet-cons, quiet-append, feed-event}
 use Rattle.framing.proofs.Segments.{Config, step, step-open, step-refused, heard-events}
 use Rattle.framing.proofs.Lawful.{Lawful, at, fresh-follows}
+use Rattle.framing.proofs.Tests.{by-two}
+use Rattle.framing.proofs.Stored.{by-writer}
 
 differ : {A : Type 0} → _≡_ {A = ℕ} 0 1 → A
 differ e = absurd (omega arith)
@@ -202,18 +203,21 @@ module _ (L : Link) where
         hears-stop numbers (stepOn L c b .0) (stepOn L c b .1) (feed (stepOn L) (stepOn L c b .0) bs)
         (hears-event numbers (L .onByte (L .phaseOf (c .0) (c .1)) b .1) (given .only (L .phaseOf (c .0) (c .1)) b)) (hears-feed (stepOn L c b .0) bs)
 
-    -- of a known state, 1 or what streams give; of an unknown one, 12
+    -- of an unknown state, 12; of a known one, 1 or what streams give
+    hears-one : (list : List ℕ) (c : Lent L) (bs : List ℕ) → (L .known (c .0) ≡ false → isIn 12 list ≡ true) → isIn 1 list ≡ true
+        → Hears list (feed (stepOn L) c bs .event) → Hears list (callOn L c bs .event)
+    hears-one list c bs u s f =
+        by-two (λ (g : Fed (Event (L .Message)) (Lent L)). Hears list (g .event)) (L .known (c .0)) (leb (L .size) (length (c .1))) 12 1
+        (feed (stepOn L) c bs) (λ n. refuses L n c) refl refl u (λ _ _. s) (λ _ _. f)
+
     hears-known : (c : Lent L) (bs : List ℕ) → L .known (c .0) ≡ true → Hears (1 ∷ numbers) (callOn L c bs .event)
     hears-known c bs k =
-        rw k (either (λ (f : Fed (Event (L .Message)) (Lent L)). Hears (1 ∷ numbers) (f .event)) (leb (L .size) (length (c .1)))
-        (hears-more numbers 1 (feed (stepOn L) c bs .event) (hears-feed c bs)) refl)
+        hears-one (1 ∷ numbers) c bs (λ u. absurd (false≢true (sym u ∙ k))) refl (hears-more numbers 1 (feed (stepOn L) c bs .event) (hears-feed c bs))
 
     hears-call : (c : Lent L) (bs : List ℕ) → Hears (12 ∷ 1 ∷ numbers) (callOn L c bs .event)
-    hears-call c bs = go (L .known (c .0)) refl
-      where
-        go : (t : Bool) → L .known (c .0) ≡ t → Hears (12 ∷ 1 ∷ numbers) (callOn L c bs .event)
-        go true e = hears-more (1 ∷ numbers) 12 (callOn L c bs .event) (hears-known c bs e)
-        go false e = rw e refl
+    hears-call c bs =
+        hears-one (12 ∷ 1 ∷ numbers) c bs (λ _. refl) refl
+        (hears-more (1 ∷ numbers) 12 (feed (stepOn L) c bs .event) (hears-more numbers 1 (feed (stepOn L) c bs .event) (hears-feed c bs)))
 
     told-in : (list : List ℕ) (o : Option (Event (L .Message))) (n : ℕ) → Hears list o → told L o ≡ refused n → isIn n list ≡ true
     told-in list none n h e = differ (cc)
@@ -285,9 +289,7 @@ module _ (L : Link) where
 
 -- a writer
 pub writes-give : (L : Link) → WritesGive L
-unfolding storedAt
 writes-give L m memory n =
-    either (λ (w : Outcome ℕ × List ℕ). w .0 ≡ Answer.refused n → isIn n (3 ∷ 2 ∷ []) ≡ true) (L .ok m)
-    (either (λ (w : Outcome ℕ × List ℕ). w .0 ≡ Answer.refused n → isIn n (3 ∷ 2 ∷ []) ≡ true) (leb (0 + length (L .frame m)) (length memory))
-    (λ e. differ (cc)) (λ e. let z : _≡_ {A = ℕ} 2 n = cc in subst (λ (x : ℕ). isIn x (3 ∷ 2 ∷ []) ≡ true) z refl))
-    (λ e. let z : _≡_ {A = ℕ} 3 n = cc in subst (λ (x : ℕ). isIn x (3 ∷ 2 ∷ []) ≡ true) z refl)
+    by-writer (L .ok) (L .frame) m memory (λ w. w .0 ≡ Answer.refused n → isIn n (3 ∷ 2 ∷ []) ≡ true)
+    (λ _ e. let z : _≡_ {A = ℕ} 3 n = cc in subst (λ (x : ℕ). isIn x (3 ∷ 2 ∷ []) ≡ true) z refl)
+    (λ _ _ e. let z : _≡_ {A = ℕ} 2 n = cc in subst (λ (x : ℕ). isIn x (3 ∷ 2 ∷ []) ≡ true) z refl) (λ _ _ e. differ (cc))

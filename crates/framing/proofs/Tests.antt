@@ -1,10 +1,10 @@
 -- What the number of the first test that fires says of the tests.
 use Prim.Native.Nat.{ℕ}
 use mathlib.Core.Path.{_≡_, refl}
-use mathlib.Core.Bool.{Bool, true, false, _&&_}
+use mathlib.Core.Bool.{Bool, true, false, cond, not, _&&_}
 use mathlib.Core.List.{List, [], _∷_}
 use native.Mathlib.Omega.{arith}
-use lib.Dec.{leb}
+use lib.Dec.{eqb, leb}
 use borrow.Author.Tests.{leb-true}
 use Rattle.runs.proofs.Cases.{and-both}
 use Rattle.framing.specs.Claims.{AllOf}
@@ -34,3 +34,11 @@ pub of-first : (P : ℕ → Type 0) (tests : List (Bool × ℕ)) → P 0 → All
 of-first P [] z h = z
 of-first P ((true, number) ∷ tests) z h = h .0
 of-first P ((false, number) ∷ tests) z h = of-first P tests z (h .1)
+
+-- a call that two tests come before: refused by the first, by the second, or by neither
+pub by-two : {A : Type 0} (P : A → Type 0) (a b : Bool) (m n : ℕ) (x : A) (y : ℕ → A) → eqb m 0 ≡ false → eqb n 0 ≡ false
+    → (a ≡ false → P (y m)) → (a ≡ true → b ≡ false → P (y n)) → (a ≡ true → b ≡ true → P x)
+    → let fault = firstOf ((not a, m) ∷ (not b, n) ∷ []) in P (cond (eqb fault 0) x (y fault))
+by-two P false b m n x y s t h k l = rw s (h refl)
+by-two P true false m n x y s t h k l = rw t (k refl refl)
+by-two P true true m n x y s t h k l = l refl refl

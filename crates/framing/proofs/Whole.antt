@@ -7,18 +7,19 @@ use mathlib.Core.Option.{Option, none, some}
 use native.Mathlib.Omega.{arith}
 use lib.ListN.{length, length-append}
 use lib.Seq.{drop-length}
-use lib.Dec.{ltb, eqb}
-use borrow.Author.Tests.{ltb-true, eqb-true, lt-ltb, eq-eqb}
+use lib.Dec.{leb, ltb, eqb}
+use borrow.Author.Tests.{leb-true, ltb-true, eqb-true, lt-ltb, eq-eqb}
 use Rattle.runs.specs.Runs.{Bytes}
-use Rattle.runs.proofs.Cases.{by-test, by-leb, and-both}
+use Rattle.runs.proofs.Cases.{and-both}
 use Rattle.framing.specs.Answer.{done}
 use Rattle.framing.specs.Receiver.{Fed, feed, last}
 use Rattle.framing.specs.Segment.{Segment, noise, refusedFrame, acceptedFrame, Event, message, refusal, wires, heard, noiseOf}
-use Rattle.framing.specs.Link.{Link, Lent, told, heardIn}
+use Rattle.framing.specs.Link.{Link, Lent, stepOn, refuses, told, heardIn}
 use Rattle.framing.specs.Claims.{segments, openAt}
 use Rattle.framing.specs.Whole.{settle, exactly, readOn, OnlyFrames, FramesRead}
 use Rattle.framing.proofs.Feed.{events-feed, last-feed}
 use Rattle.framing.proofs.Segments.{Config, step, AllAccept, heard-events, noise-last, phase-last}
+use Rattle.framing.proofs.Tests.{by-two}
 use Rattle.framing.proofs.Lawful.{Lawful, at, accounted, Writable, all-writable, last-closed, fresh-follows, fresh-called}
 
 none-left : {A : Type 0} (xs : List A) → length xs ≡ 0 → xs ≡ []
@@ -111,7 +112,8 @@ module _ (L : Link) (laws : Lawful L) where
   -- a store that is too short gives no message
   has-room : (run store : List ℕ) (v : L .Numbers) → readOn L run store .0 ≡ done v → L .size ≤ length store
   has-room run store v =
-      by-test Roomy (L .known (L .fresh)) (λ _. by-leb Roomy (L .size) (length store) (λ l _. l) (λ _ h. differ (cc))) (λ _ h. differ (cc))
+      by-two Roomy (L .known (L .fresh)) (leb (L .size) (length store)) 12 1 (feed (stepOn L) (L .fresh, store) run) (λ n. refuses L n (L .fresh, store)) refl refl
+      (λ _ h. differ (cc)) (λ _ _ h. differ (cc)) (λ _ l _. leb-true _ _ l)
     where
       Roomy : Fed (Event (L .Message)) (Lent L) → Type 0
       Roomy f = settle (exactly (length run) (f .used) (L .noise (f .after .0))) (told L (f .event)) ≡ done v → L .size ≤ length store

@@ -5,11 +5,12 @@ use mathlib.Core.Bool.{Bool, true, false, cond}
 use mathlib.Core.List.{List, []}
 use mathlib.Core.Option.{Option, none, some}
 use lib.ListN.{length, take, drop}
-use lib.Dec.{leb}
+use lib.Dec.{eqb, leb}
 use Rattle.runs.specs.Runs.{over}
 use Rattle.framing.specs.Answer.{Outcome}
 use Rattle.framing.specs.Receiver.{Fed, feed}
 use Rattle.framing.specs.Segment.{Segment, Event, message, refusal, eventOf}
+use Rattle.framing.specs.Tests.{callFault}
 use Rattle.framing.specs.Writer.{writes}
 
 pub record Link : Type 1 where
@@ -75,10 +76,11 @@ module _ (L : Link) where
   abbrev pub refuses : ℕ → Lent → Fed (Event (L .Message)) Lent
   refuses n c = record { event = some (refusal n); used = 0; after = c }
 
-  -- a call: 12, then 1; else byte after byte until one makes an event
+  -- a call: refused with 12 or 1, or byte after byte until one makes an event
   abbrev pub callOn : Lent → List ℕ → Fed (Event (L .Message)) Lent
   callOn c piece =
-      cond (L .known (c .0)) (cond (leb (L .size) (length (c .1))) (feed stepOn c piece) (refuses 1 c)) (refuses 12 c)
+      let fault = callFault (L .known (c .0)) (leb (L .size) (length (c .1))) in
+      cond (eqb fault 0) (feed stepOn c piece) (refuses fault c)
 
   -- an event as it is told, and as the caller has it, the data read in the store after the call
   abbrev pub told : Option (Event (L .Message)) → Told (L .Numbers)

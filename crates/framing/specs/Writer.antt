@@ -2,12 +2,17 @@
 use Prim.Native.Nat.{ℕ}
 use mathlib.Core.Bool.{Bool, cond}
 use mathlib.Core.List.{List, [], _∷_, _++_}
-use lib.ListN.{take}
-use Rattle.framing.specs.Answer.{Outcome, done, refused, storedAt}
+use lib.Dec.{eqb, leb}
+use lib.ListN.{length, take}
+use lib.Seq.{sets}
+use Rattle.framing.specs.Answer.{Outcome, done, refused}
+use Rattle.framing.specs.Tests.{writeFault}
 
--- a writer: 3 where the message may not be sent, then 2; else the frame at the start of the memory, and nothing after it
+-- a writer: refused with 3 or 2, and the memory as it came; or the frame at the start of the memory, and nothing after it
 abbrev pub writes : {M : Type 0} → (M → Bool) → (M → List ℕ) → M → List ℕ → Outcome ℕ × List ℕ
-writes ok frame m memory = cond (ok m) (storedAt (frame m) memory 0) (refused 3, memory)
+writes ok frame m memory =
+    let fault = writeFault (ok m) (leb (length (frame m)) (length memory)) in
+    cond (eqb fault 0) (done (length (frame m)), sets memory 0 (frame m)) (refused fault, memory)
 
 -- a call of a writer: the message, and the memory lent
 pub record Call (M : Type 0) : Type 0 where

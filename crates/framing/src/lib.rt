@@ -6,6 +6,7 @@ ghost use mathlib.Core.Path.{_≡_};
 ghost use Prim.Native.Nat.{_+_, _%_, _^_};
 ghost use Rattle.framing.specs.Answer.{outcomeOf, countOf};
 ghost use Rattle.framing.specs.Link.{dataAt};
+ghost use Rattle.framing.specs.Tests.{writeFault, callFault};
 ghost use Rattle.framing.specs.State.{freshState, knownState, afterNoise, huntedFrom};
 
 // The answer of a call that makes bytes: how many, or the number of a refusal.
@@ -22,6 +23,32 @@ pub fn count_of(answer: Answer) -> usize
         Answer::Done(n) => n,
         Answer::Refused(_) => 0,
     }
+}
+
+// The number that a writer's call is refused with before it stores, 0 where it is not.
+pub fn write_fault(sendable: bool, fits: bool) -> u8
+    ensures { λ r. ⌜ r ≡ writeFault sendable fits ⌝ }
+{
+    if !sendable {
+        return refusal::UNSENDABLE;
+    }
+    if !fits {
+        return refusal::OUTPUT_SHORT;
+    }
+    0
+}
+
+// The number that a receiver's call is refused with before it reads, 0 where it is not.
+pub fn call_fault(known: bool, holds: bool) -> u8
+    ensures { λ r. ⌜ r ≡ callFault known holds ⌝ }
+{
+    if !known {
+        return refusal::UNKNOWN_STATE;
+    }
+    if !holds {
+        return refusal::STORE_SHORT;
+    }
+    0
 }
 
 // What a receiver keeps between calls: the link's mode, the count of gathered bytes, the wire bytes of what is open, the noise bytes.

@@ -1,16 +1,15 @@
 -- A reply may be sent, and is short.
-use Prim.Native.Nat.{ℕ, _+_, _≤_}
-use mathlib.Core.Path.{_≡_, subst}
-use mathlib.Core.Bool.{Bool, true}
+use Prim.Native.Nat.{ℕ, _≤_}
+use mathlib.Core.Path.{_≡_, sym, _∙_, subst}
+use mathlib.Core.Bool.{Bool, true, false≢true}
 use mathlib.Core.List.{List, _++_}
 use mathlib.Core.Option.{some}
 use native.Mathlib.Omega.{arith}
-use native.Mathlib.Decide.{decLe}
 use lib.ListN.{length, length-append}
 use Rattle.runs.proofs.Number.{length-bytesOf}
-use Rattle.framing.specs.Answer.{refused, storedAt}
+use Rattle.framing.specs.Answer.{refused}
 use Rattle.framing.specs.Link.{writeOn}
-use Rattle.framing.proofs.Stored.{stored-done, stored-refused}
+use Rattle.framing.proofs.Stored.{by-writer}
 use Rattle.escape.specs.Expansion as Escape
 use Rattle.escape.proofs.Lawful.{hide-short}
 use Rattle.escape.proofs.Expansion.{expansion-lawful}
@@ -22,11 +21,9 @@ use Rattle.gate.specs.Claims.{Sendable}
 
 -- a message that may be sent is answered with its length or with 2
 never-3 : (m : Frame.Message) → ok m ≡ true → (memory : List ℕ) → writeOn link m memory .0 ≡ refused 3 → ⊥
-never-3 m h memory = rw h (go (decLe (0 + length (frame m)) (length memory)))
-  where
-    go : Dec (0 + length (frame m) ≤ length memory) → storedAt (frame m) memory 0 .0 ≡ refused 3 → ⊥
-    go (yes l) e = let f = stored-done (frame m) memory 0 l in let z : _≡_ {A = ℕ} 0 1 = cc in omega arith
-    go (no l) e = let f = stored-refused (frame m) memory 0 (omega arith) in let z : _≡_ {A = ℕ} 2 3 = cc in omega arith
+never-3 m h memory =
+    by-writer ok frame m memory (λ w. w .0 ≡ refused 3 → ⊥) (λ n _. false≢true (sym n ∙ h)) (λ _ _ e. let z : _≡_ {A = ℕ} 2 3 = cc in omega arith)
+    (λ _ _ e. let z : _≡_ {A = ℕ} 0 1 = cc in omega arith)
 
 -- two marks, and at most two bytes for each of the header and the CRC
 reply-short : (head : Bool) (id kind address : ℕ) → length (frame (reply head id kind address)) ≤ 18

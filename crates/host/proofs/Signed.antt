@@ -1,18 +1,17 @@
 -- A writer's answer as a signed number: the length and the number of a refusal fit 31 bits, so that neither is changed by its sign.
-use Prim.Native.Nat.{ℕ, zero, suc, _+_, _^_, _≤_, _<_}
+use Prim.Native.Nat.{ℕ, zero, suc, _^_, _<_}
 use native.Mathlib.Omega.{arith}
 use mathlib.Core.Path.{_≡_, refl, sym, ap, subst}
 use mathlib.Core.List.{List}
 use lib.IntN.{ℤ, pos, negsuc, negℤ, _-ℤ_}
-use lib.ListN.{length}
 use lib.Dec.{lit<}
 use borrow.Author.Tests.{lt-ltb}
 use mir.Syntax.{w32}
 use mir.Val.{SFits, toZ, ofZ}
 use mir.ValLaws.{toZ-pos, toZ-ofZ}
-use Rattle.runs.proofs.Cases.{by-test, by-leb}
-use Rattle.framing.specs.Answer.{Outcome, storedAt}
+use Rattle.framing.specs.Answer.{Outcome}
 use Rattle.framing.specs.Link.{Link, writeOn}
+use Rattle.framing.proofs.Stored.{by-writer}
 use Rattle.host.specs.Write.{int32Of, writesTo}
 use Rattle.host.specs.Steps.{Short}
 use Rattle.host.specs.Claims.{FrameBound}
@@ -36,13 +35,9 @@ module _ (n : ℕ) (h : n < 2 ^ 31) where
   pub minus-value : toZ w32 (ofZ w32 (pos 0 -ℤ toZ w32 n)) ≡ negℤ (pos n)
   minus-value = rw is (toZ-ofZ w32 (negℤ (pos n)) (negated-fits n h))
 
-stored-short : (run out : List ℕ) → length run ≤ 2066 → Short (storedAt run out 0 .0)
-unfolding storedAt
-stored-short run out h = by-leb (λ (w : Outcome ℕ × List ℕ). Short (w .0)) (0 + length run) (length out) (λ _. omega arith) (λ _. tt)
-
 written-short : (L : Link) → FrameBound L → (m : L .Message) (out : List ℕ) → Short (writeOn L m out .0)
 written-short L bound m out =
-    by-test (λ (w : Outcome ℕ × List ℕ). Short (w .0)) (L .ok m) (λ h. stored-short (L .frame m) out (bound m h)) (λ _. tt)
+    by-writer (L .ok) (L .frame) m out (λ w. Short (w .0)) (λ _. tt) (λ _ _. tt) (λ h _. omega (arith, bound m h))
 
 -- a call of a link's writer, which answered o and left `after`
 module _ (L : Link) (bound : FrameBound L) (m : L .Message) (out : List ℕ) {o : Outcome ℕ} {after : List ℕ} (e : (o, after) ≡ writeOn L m out) where

@@ -4,6 +4,7 @@ use mathlib.Core.Path.{_≡_, refl}
 use mathlib.Core.Bool.{true}
 use mathlib.Core.List.{List}
 use lib.ListN.{getD}
+use lib.Dec.{eqb}
 use borrow.Author.Tests.{eqb-true, eqb-false, eq-eqb, ne-eqb, not-false}
 use Rattle.framing.proofs.Tests.{none-fires}
 use Rattle.mdu.specs.Frame.{lengthOk, headerSum}
@@ -21,11 +22,15 @@ module _ (g : List ℕ) where
   unfolding headerFault
   passed h =
       let t = none-fires (headerTests g) refl h in
+      let a = t .0 in
+      let b = t .1 .0 in
+      let c = t .1 .1 .0 in
+      let d = t .1 .1 .1 .0 in
       record {
-        version = eqb-true (getD g 1 0) 1 (not-false _ (t .0));
-        address = eqb-false (getD g 4 0) 0 (t .1 .0);
-        checked = eqb-true (getD g 5 0) (headerSum g) (not-false _ (t .1 .1 .0));
-        allowed = not-false _ (t .1 .1 .1 .0);
+        version = eqb-true (getD g 1 0) 1 (not-false (eqb (getD g 1 0) 1) cc);
+        address = eqb-false (getD g 4 0) 0 cc;
+        checked = eqb-true (getD g 5 0) (headerSum g) (not-false (eqb (getD g 5 0) (headerSum g)) cc);
+        allowed = not-false (lengthOk (stated g)) cc;
       }
 
   pub no-fault : Passed g → headerFault g ≡ 0

@@ -55,20 +55,13 @@ pub fn write(address: u8, body: &[u8], out: &mut [u8]) -> Answer
     ensures { λ r. ⌜ (outcomeOf r, now (out .exit))
         ≡ writes ok frame (record { address = address; body = now (body .entry) }) (now (out .entry)) ⌝ }
 {
-    let n = body.len();
-    if address < 1 {
-        return Answer::Refused(framing::refusal::UNSENDABLE);
-    }
-    if header::length_ok(n) {
-        let end = 8 + n;
-        if end <= out.len() {
-            writer::put_frame(address, body, out);
-            Answer::Done(end)
-        } else {
-            Answer::Refused(framing::refusal::OUTPUT_SHORT)
-        }
+    let end = 8 + body.len();
+    let fault = framing::write_fault(writer::may_send(address, body), end <= out.len());
+    if fault == 0 {
+        writer::put_frame(address, body, out);
+        Answer::Done(end)
     } else {
-        Answer::Refused(framing::refusal::UNSENDABLE)
+        Answer::Refused(fault)
     }
 }
 
@@ -76,19 +69,12 @@ pub fn write(address: u8, body: &[u8], out: &mut [u8]) -> Answer
 pub fn receive(state: State, store: &mut [u8], piece: &[u8]) -> Received
     ensures { λ r. ⌜ receivedOf r (now (store .exit)) ≡ receives link (state, now (store .entry)) (now (piece .entry)) ⌝ }
 {
-    if receiver::is_known(state) {
-        if SIZE <= store.len() {
-            receiver::scan(state, store, piece)
-        } else {
-            Received {
-                event: Event::Refused(framing::refusal::STORE_SHORT),
-                used: 0,
-                state: state,
-            }
-        }
+    let fault = framing::call_fault(receiver::is_known(state), SIZE <= store.len());
+    if fault == 0 {
+        receiver::scan(state, store, piece)
     } else {
         Received {
-            event: Event::Refused(framing::refusal::UNKNOWN_STATE),
+            event: Event::Refused(fault),
             used: 0,
             state: state,
         }

@@ -1,10 +1,17 @@
-// The parts of a frame, stored one after the other.
+// Which messages may be sent, and the parts of a frame, stored one after the other.
 use super::header;
 ghost use mathlib.Core.Path.{_≡_};
 ghost use Prim.Native.Nat.{_+_, _≤_};
 ghost use lib.ListN.{length};
 ghost use lib.Seq.{sets};
-ghost use Rattle.mdu.specs.Frame.{header, trailer, frame};
+ghost use Rattle.mdu.specs.Frame.{ok, header, trailer, frame};
+
+// Whether a message may be sent.
+pub(crate) fn may_send(address: u8, body: &[u8]) -> bool
+    ensures { λ r. ⌜ r ≡ ok (record { address = address; body = now (body .entry) }) ⌝ }
+{
+    1 <= address && header::length_ok(body.len())
+}
 
 // Stores a header at the start.
 fn put_header(out: &mut [u8], stated: u16, address: u8)

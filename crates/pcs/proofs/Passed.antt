@@ -7,7 +7,7 @@ use lib.ListN.{length, getD, take}
 use borrow.Author.Tests.{ltb-false, le-ltb, eqb-true, eq-eqb, not-false}
 use Rattle.framing.proofs.Tests.{none-fires}
 use Rattle.checksum.specs.Sum.{sumOf}
-use Rattle.pcs.specs.Rules.{stated, asksCrc, fieldsOk, tests, faultOf}
+use Rattle.pcs.specs.Rules.{stated, asksCrc, sumRight, fieldsOk, lengthRight, tests, faultOf}
 
 -- gathered bytes of which no test before unpacking fires
 pub record Passed (g : List ℕ) : Type 0 where
@@ -22,12 +22,17 @@ module _ (g : List ℕ) where
   unfolding faultOf
   passed h =
       let t = none-fires (tests g) refl h in
+      let a = t .0 in
+      let b = t .1 .0 in
+      let c = t .1 .1 .0 in
+      let d = t .1 .1 .1 .0 in
+      let e = t .1 .1 .1 .1 .0 in
       record {
-        long = ltb-false (length g) 9 (t .0);
-        plain = t .1 .0;
-        checked = eqb-true (getD g (length g - 1) 0) (sumOf (take (length g - 1) g)) (not-false _ (t .1 .1 .0));
-        fields = not-false _ (t .1 .1 .1 .0);
-        present = eqb-true (stated g) (length g - 9) (not-false _ (t .1 .1 .1 .1 .0));
+        long = ltb-false (length g) 9 cc;
+        plain = cc;
+        checked = eqb-true (getD g (length g - 1) 0) (sumOf (take (length g - 1) g)) (not-false (sumRight g) cc);
+        fields = not-false (fieldsOk g) cc;
+        present = eqb-true (stated g) (length g - 9) (not-false (lengthRight g) cc);
       }
 
   pub no-fault : Passed g → faultOf g ≡ 0

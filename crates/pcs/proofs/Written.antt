@@ -15,9 +15,9 @@ pub frame-length : (m : Message) → length (frame m) ≡ 11 + packedLength (len
 frame-length m = simp length-append (omega (arith, length-packed (m .payload)))
 
 -- the start mark and a header of 8, then n packed bytes p, then the sum of both and the end mark
-module _ (memory h p first second third : List ℕ) (n : ℕ) (eight : length h ≡ 8) (long : length p ≡ n) (room : 11 + n ≤ length memory)
-    (e₁ : first ≡ sets memory 0 (253 ∷ h)) (e₂ : second ≡ sets first 9 p)
-    (e₃ : third ≡ sets second (9 + n) (sumOf (take (9 + n - 1) (drop 1 second)) ∷ 254 ∷ [])) where
+module _ (memory h p first second third : List ℕ) (n sum : ℕ) (eight : length h ≡ 8) (long : length p ≡ n) (room : 11 + n ≤ length memory)
+    (e₁ : first ≡ sets memory 0 (253 ∷ h)) (e₂ : second ≡ sets first 9 p) (s : sum ≡ sumOf (take (9 + n - 1) (drop 1 second)))
+    (e₃ : third ≡ sets second (9 + n) (sum ∷ 254 ∷ [])) where
   both : length (h ++ p) ≡ 8 + n
   both = length-append h p ∙ omega arith
 
@@ -35,6 +35,6 @@ module _ (memory h p first second third : List ℕ) (n : ℕ) (eight : length h 
   parts-written =
       let end : 9 + n ≡ 0 + length (253 ∷ (h ++ p)) = omega (arith, both) in
       e₃
-      ∙ ap (λ (x : List ℕ). sets second (9 + n) (sumOf x ∷ 254 ∷ [])) summed
+      ∙ ap (λ (x : ℕ). sets second (9 + n) (x ∷ 254 ∷ [])) (s ∙ ap sumOf summed)
       ∙ ap₂ (λ (l : List ℕ) (k : ℕ). sets l k (sumOf (h ++ p) ∷ 254 ∷ [])) front end
       ∙ sym (sets-append (253 ∷ (h ++ p)) (sumOf (h ++ p) ∷ 254 ∷ []) memory 0)

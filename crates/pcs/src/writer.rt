@@ -2,16 +2,14 @@
 use super::Message;
 use super::fields;
 use framing::Answer;
-use framing::refusal;
 ghost use mathlib.Core.Path.{_≡_};
 ghost use mathlib.Core.List.{[], _∷_};
-ghost use Prim.Native.Nat.{_+_, _-_, _≤_, _<_};
-ghost use lib.ListN.{length, take, drop};
+ghost use Prim.Native.Nat.{_+_, _≤_, _<_};
+ghost use lib.ListN.{length};
 ghost use lib.Seq.{sets};
 ghost use Rattle.framing.specs.Answer.{outcomeOf};
 ghost use Rattle.framing.specs.Writer.{writes};
 ghost use Rattle.packing.specs.Packed.{packedLength};
-ghost use Rattle.checksum.specs.Sum.{sumOf};
 ghost use Rattle.pcs.specs.Frame.{ok, header, frame};
 ghost use Rattle.pcs.specs.Contract.{withData};
 
@@ -42,12 +40,12 @@ fn put_header(message: Message, packed: usize, out: &mut [u8])
     out[8] = message.receiver_port;
 }
 
-// Stores the sum of the bytes behind the start mark, and the end mark, from a place on.
-fn put_end(out: &mut [u8], at: usize)
-    requires { ⌜ (1 ≤ at) × (at + 2 ≤ length (now out)) ⌝ }
-    ensures { λ r. ⌜ now (out .exit) ≡ sets (now (out .entry)) at (sumOf (take (at - 1) (drop 1 (now (out .entry)))) ∷ 254 ∷ []) ⌝ }
+// Stores the sum and the end mark from a place on.
+fn put_end(out: &mut [u8], at: usize, sum: u8)
+    requires { ⌜ at + 2 ≤ length (now out) ⌝ }
+    ensures { λ r. ⌜ now (out .exit) ≡ sets (now (out .entry)) at (sum ∷ 254 ∷ []) ⌝ }
 {
-    out[at] = checksum::sum(&out[1..at]);
+    out[at] = sum;
     out[at + 1] = fields::END;
 }
 
@@ -59,23 +57,23 @@ fn put_frame(message: Message, data: &[u8], packed: usize, out: &mut [u8])
 {
     put_header(message, packed, out);
     packing::pack_into(data, out, 9);
-    put_end(out, 9 + packed);
+    let end = 9 + packed;
+    let summed = &out[1..end];
+    let sum = checksum::sum(summed);
+    put_end(out, end, sum);
 }
 
 // Writes the frame of a message at the start of the lent memory, and answers its length.
 pub fn write_message(message: Message, data: &[u8], out: &mut [u8]) -> Answer
     ensures { λ r. ⌜ (outcomeOf r, now (out .exit)) ≡ writes ok frame (withData message (now («data» .entry))) (now (out .entry)) ⌝ }
 {
-    if may_send(message, data) {
-        let packed = packing::packed_length(data);
-        let end = 11 + packed;
-        if end <= out.len() {
-            put_frame(message, data, packed, out);
-            Answer::Done(end)
-        } else {
-            Answer::Refused(refusal::OUTPUT_SHORT)
-        }
+    let packed = packing::packed_length(data);
+    let end = 11 + packed;
+    let fault = framing::write_fault(may_send(message, data), end <= out.len());
+    if fault == 0 {
+        put_frame(message, data, packed, out);
+        Answer::Done(end)
     } else {
-        Answer::Refused(refusal::UNSENDABLE)
+        Answer::Refused(fault)
     }
 }

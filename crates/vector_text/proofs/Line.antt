@@ -11,7 +11,7 @@ use borrow.Author.Tests.{ne-eqb, le-leb, lt-leb, leb-true}
 use Rattle.bytes.specs.Bytes.{indexOf, slice}
 use Rattle.runs.proofs.Bytes.{drop-next}
 use Rattle.vector_text.specs.Laid.{runByte, sameByte, laid}
-use Rattle.vector_text.specs.Words.{wordsFrom, wordOf, firstOf, withDigit, decimalFrom, parsedDecimal, hexOf, unhexed, fitted, givenBy}
+use Rattle.vector_text.specs.Words.{wordsFrom, wordOf, firstByte, withDigit, decimalFrom, parsedDecimal, hexOf, unhexed, fitted, givenBy}
 
 -- behind the end of a line there is no word
 words-nil : (k : ℕ) → wordsFrom k [] ≡ []
@@ -58,7 +58,7 @@ words-none line at k zero h e = e
 words-none line at k (suc n) h e = absurd (omega arith)
 
 -- a word that is not there begins with no byte
-pub first-none : (word : List ℕ) → length word ≤ 0 → 0 ≡ firstOf word
+pub first-none : (word : List ℕ) → length word ≤ 0 → 0 ≡ firstByte word
 first-none [] h = refl
 first-none (b ∷ bs) h = absurd (omega arith)
 
@@ -103,21 +103,21 @@ unhexed-at (a ∷ b ∷ bs) (suc n) h =
 
 -- what a word stands for, by its first letter
 module _ (word frame : List ℕ) (room : ℕ) where
-  pub given-frame : firstOf word ≡ 102 → givenBy word frame room ≡ fitted room frame
+  pub given-frame : firstByte word ≡ 102 → givenBy word frame room ≡ fitted room frame
   unfolding givenBy
   given-frame h = rw h
 
-  pub given-run : firstOf word ≡ 114 → givenBy word frame room ≡ laid runByte (min (parsedDecimal word) room)
+  pub given-run : firstByte word ≡ 114 → givenBy word frame room ≡ laid runByte (min (parsedDecimal word) room)
   unfolding givenBy
   given-run h = rw h
 
-  pub given-same : firstOf word ≡ 115 → givenBy word frame room ≡ laid sameByte (min (parsedDecimal word) room)
+  pub given-same : firstByte word ≡ 115 → givenBy word frame room ≡ laid sameByte (min (parsedDecimal word) room)
   unfolding givenBy
   given-same h = rw h
 
-  pub given-hex : (firstOf word ≡ 102 → ⊥) → (firstOf word ≡ 114 → ⊥) → (firstOf word ≡ 115 → ⊥) → givenBy word frame room ≡ take room (unhexed word)
+  pub given-hex : (firstByte word ≡ 102 → ⊥) → (firstByte word ≡ 114 → ⊥) → (firstByte word ≡ 115 → ⊥) → givenBy word frame room ≡ take room (unhexed word)
   unfolding givenBy
-  given-hex f r s = simp (ne-eqb (firstOf word) 102 f, ne-eqb (firstOf word) 114 r, ne-eqb (firstOf word) 115 s)
+  given-hex f r s = simp (ne-eqb (firstByte word) 102 f, ne-eqb (firstByte word) 114 r, ne-eqb (firstByte word) 115 s)
 
 -- the bytes of a word in hex, as far as there is room
 module _ (word : List ℕ) (room : ℕ) where

@@ -17,8 +17,8 @@ unfoldable pub wordOf : ℕ → List ℕ → List ℕ
 wordOf k line = take (indexOf 32 (wordsFrom k line)) (wordsFrom k line)
 
 -- the first byte of a word, 0 where it has none
-abbrev pub firstOf : List ℕ → ℕ
-firstOf word = getD word 0 0
+abbrev pub firstByte : List ℕ → ℕ
+firstByte word = getD word 0 0
 
 -- a number with one character more: what is no digit is passed over, and at most ten digits are kept
 abbrev pub withDigit : ℕ → ℕ → ℕ
@@ -54,9 +54,9 @@ fitted room bytes = cond (leb (length bytes) room) bytes []
 -- is room, of any other word those in hex
 unfoldable pub givenBy : List ℕ → List ℕ → ℕ → List ℕ
 givenBy word frame room =
-    cond (eqb (firstOf word) 102) (fitted room frame)
-    (cond (eqb (firstOf word) 114) (laid runByte (min (parsedDecimal word) room))
-    (cond (eqb (firstOf word) 115) (laid sameByte (min (parsedDecimal word) room)) (take room (unhexed word))))
+    cond (eqb (firstByte word) 102) (fitted room frame)
+    (cond (eqb (firstByte word) 114) (laid runByte (min (parsedDecimal word) room))
+    (cond (eqb (firstByte word) 115) (laid sameByte (min (parsedDecimal word) room)) (take room (unhexed word))))
 
 -- the word `example`
 abbrev pub example : List ℕ

@@ -8,7 +8,7 @@ ghost use Prim.Native.Nat.{_≤_, _%_, _^_, min};
 ghost use lib.ListN.{length, take, drop};
 ghost use Rattle.vector_text.specs.Counted.{PutAtStart};
 ghost use Rattle.vector_text.specs.Laid.{byteOf, laid};
-ghost use Rattle.vector_text.specs.Words.{wordsFrom, wordOf, firstOf, withDigit, parsedDecimal, numberOf, hexOf, unhexed, givenBy, example};
+ghost use Rattle.vector_text.specs.Words.{wordsFrom, wordOf, firstByte, withDigit, parsedDecimal, numberOf, hexOf, unhexed, givenBy, example};
 
 // The place at which word k begins.
 fn start(line: &[u8], k: usize) -> usize
@@ -113,14 +113,14 @@ pub fn byte(line: &[u8], k: usize) -> u8
 }
 
 fn first_of(word: &[u8]) -> u8
-    ensures { λ r. ⌜ r ≡ firstOf (now (word .entry)) ⌝ }
+    ensures { λ r. ⌜ r ≡ firstByte (now (word .entry)) ⌝ }
 {
     if 0 < word.len() { word[0] } else { 0 }
 }
 
 // The first byte of a word.
 pub fn first(line: &[u8], k: usize) -> u8
-    ensures { λ r. ⌜ r ≡ firstOf (wordOf k (now (line .entry))) ⌝ }
+    ensures { λ r. ⌜ r ≡ firstByte (wordOf k (now (line .entry))) ⌝ }
 {
     first_of(word(line, k))
 }

@@ -5,7 +5,8 @@ use lib.ListN.{length}
 use Rattle.runs.specs.Number.{bytesOf}
 use Rattle.runs.proofs.Number.{number-put}
 use Rattle.framing.specs.Answer.{storedAt}
-use Rattle.expansion.specs.Frame.{Message, body, trailer, enclose}
+use Rattle.framing.proofs.Stored.{writes-stored}
+use Rattle.expansion.specs.Frame.{Message, ok, body, trailer, enclose, frame}
 use Rattle.expansion.specs.Rules.{size}
 use Rattle.expansion.proofs.Judge.{content-fits}
 use borrow.Author.Needs.{needs}
@@ -32,9 +33,9 @@ returns c =
     let a = t .before .before .before .before .args in
     let m : Message = record { id = a .id; kind = a .kind; repeat = a .repeat; address = a .address; payload = a .«data» .now } in
     let e : p .put-number .last .0 ≡ trailer (body m) = number-put 4 (k .crc32-joined .result) _ _ refl (p .put-number .ensures) ∙ ap (bytesOf 4) (k .crc32-joined .ensures) in
-    rw (sym (t .before .is-sendable .ensures) ∙ t .if1 .taken)
-    (c .before .before .send .ensures
-    ∙ ap (λ (x : List ℕ). storedAt (enclose (a .id ∷ a .kind ∷ a .repeat ∷ a .address ∷ (a .«data» .now ++ x))) (a .out .now) 0) e)
+    c .before .before .send .ensures
+    ∙ ap (λ (x : List ℕ). storedAt (enclose (a .id ∷ a .kind ∷ a .repeat ∷ a .address ∷ (a .«data» .now ++ x))) (a .out .now) 0) e
+    ∙ sym (writes-stored ok frame m (a .out .now) (sym (t .before .is-sendable .ensures) ∙ t .if1 .taken))
 
 returns-2 : tie.Need-returns-2
 returns-2 c = rw (sym (c .before .is-sendable .ensures) ∙ c .if1 .left)

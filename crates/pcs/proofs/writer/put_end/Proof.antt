@@ -9,10 +9,7 @@ slice-write-out-2 : tie.Need-slice-write-out-2
 slice-write-out-2 c = simp length-set (omega arith)
 
 returns : tie.Need-returns
-returns c = rw (add-one, c .sum .ensures)
+returns c = rw add-one
 
 pub put-end-spec : {M : Type 1} → statement M
-put-end-spec =
-    tie.close
-    (tie.spec (λ c. search needs) (λ c. search needs) (λ c. search needs) (λ c κs. search needs) (λ c. search needs) (λ c. search needs)
-    slice-write-out-2 (λ c. search needs) returns)
+put-end-spec = tie.close (tie.spec (λ c. search needs) (λ c. search needs) slice-write-out-2 (λ c. search needs) returns)

@@ -17,20 +17,23 @@ use Rattle.pcs.proofs.writer.put_frame.Tie as tie
 
 returns : tie.Need-returns
 returns c =
-    let s = c .before .before .before .before .before .before .before .before .before .before .before .before .before .before in
+    let e = c .before .before in
+    let x = e .before .before in
+    let p = x .before .before .before .before .before in
+    let h = p .before .before .before .before in
+    let s = h .before .before .before .before in
     let out = s .args .out .now in
     let d = s .args .«data» .now in
     let m = withData (s .args .message) d in
-    let h = c .before .before .before .before .before .before .before .before .before .before .put-header in
-    let p = c .before .before .before .before .before .before .pack-into in
-    let e = c .before .before .put-end in
     let n : s .args .packed ≡ length (packed d) = s .pre .2 ∙ sym (length-packed d) in
-    let room : 9 + length (packed d) ≤ length (h .last .1 .1 .0) = omega (arith, h .kept .1 .1 .0) in
-    let w = p .ensures ∙ stored-done (packed d) (h .last .1 .1 .0) 9 room in
-    parts-written out (header m (s .args .packed)) (packed d) (h .last .1 .1 .0) (p .last .1 .0) (e .last .0) (s .args .packed) refl (sym n) (omega arith)
-    (h .ensures) (λ i. w i .1) (e .ensures)
+    let room : 9 + length (packed d) ≤ length (h .put-header .last .1 .1 .0) = omega (arith, h .put-header .kept .1 .1 .0) in
+    let w = p .pack-into .ensures ∙ stored-done (packed d) (h .put-header .last .1 .1 .0) 9 room in
+    parts-written out (header m (s .args .packed)) (packed d) (h .put-header .last .1 .1 .0) (p .pack-into .last .1 .0) (e .put-end .last .0)
+    (s .args .packed) (x .sum .result) refl (sym n) (omega arith) (h .put-header .ensures) (λ i. w i .1) (x .sum .ensures) (e .put-end .ensures)
     ∙ ap (λ (k : ℕ). sets out 0 (253 ∷ ((header m k ++ packed d) ++ (sumOf (header m k ++ packed d) ∷ 254 ∷ [])))) n
 
 pub put-frame-spec : {M : Type 1} → statement M
 put-frame-spec =
-    tie.close (tie.spec (λ c κs. search needs) (λ c κs. search needs) (λ c. search needs) (λ c κs. search needs) (λ c. search needs) returns)
+    tie.close
+    (tie.spec (λ c κs. search needs) (λ c κs. search needs) (λ c. search needs) (λ c. search needs) (λ c. search needs) (λ c. search needs)
+    (λ c κs. search needs) (λ c κs. search needs) (λ c. search needs) returns)

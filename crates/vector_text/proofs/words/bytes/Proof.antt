@@ -4,7 +4,7 @@ use mathlib.Core.Path.{ap, sym, subst, _∙_}
 use denote.Ref.{now}
 use lib.ListN.{length, take}
 use borrow.Author.Needs.{needs}
-use Rattle.vector_text.specs.Words.{wordOf, firstOf, parsedDecimal, unhexed}
+use Rattle.vector_text.specs.Words.{wordOf, firstByte, parsedDecimal, unhexed}
 use Rattle.vector_text.specs.Laid.{runByte, sameByte, laid}
 use Rattle.vector_text.specs.Counted.{PutAtStart}
 use Rattle.vector_text.proofs.Line.{given-frame, given-run, given-same, given-hex}
@@ -18,7 +18,7 @@ returns c =
     let word = wordOf (a .k) (now (a .line)) in
     let room = length (now (a .out)) in
     let it = c .before .before .before .before .before .before .word .ensures in
-    let letter = ap firstOf (sym it) ∙ sym (c .before .before .before .before .before .first-of .ensures) in
+    let letter = ap firstByte (sym it) ∙ sym (c .before .before .before .before .before .first-of .ensures) in
     let u = c .before .before .copy in
     subst (λ (run : List ℕ). PutAtStart run (now (a .out)) (u .last .1 .0) (u .result)) (sym (given-frame word (now (a .frame)) room (letter ∙ c .before .before .before .before .match .keys1))) (u .ensures)
 
@@ -28,7 +28,7 @@ returns-2 c =
     let word = wordOf (a .k) (now (a .line)) in
     let room = length (now (a .out)) in
     let it = c .before .before .before .before .before .before .before .word .ensures in
-    let letter = ap firstOf (sym it) ∙ sym (c .before .before .before .before .before .before .first-of .ensures) in
+    let letter = ap firstByte (sym it) ∙ sym (c .before .before .before .before .before .before .first-of .ensures) in
     let u = c .before .before .lay in
     let count = c .before .before .before .before .decimal .ensures ∙ ap parsedDecimal it in
     subst (λ (run : List ℕ). PutAtStart run (now (a .out)) (u .last .1 .1 .0) (u .result)) (ap (λ (n : ℕ). laid runByte (min n room)) count ∙ sym (given-run word (now (a .frame)) room (letter ∙ c .before .before .before .before .before .match .keys2))) (u .ensures)
@@ -39,7 +39,7 @@ returns-3 c =
     let word = wordOf (a .k) (now (a .line)) in
     let room = length (now (a .out)) in
     let it = c .before .before .before .before .before .before .before .word .ensures in
-    let letter = ap firstOf (sym it) ∙ sym (c .before .before .before .before .before .before .first-of .ensures) in
+    let letter = ap firstByte (sym it) ∙ sym (c .before .before .before .before .before .before .first-of .ensures) in
     let u = c .before .before .lay2 in
     let count = c .before .before .before .before .decimal2 .ensures ∙ ap parsedDecimal it in
     subst (λ (run : List ℕ). PutAtStart run (now (a .out)) (u .last .1 .1 .0) (u .result)) (ap (λ (n : ℕ). laid sameByte (min n room)) count ∙ sym (given-same word (now (a .frame)) room (letter ∙ c .before .before .before .before .before .match .keys3))) (u .ensures)
@@ -51,7 +51,7 @@ returns-4 c =
     let word = wordOf (a .k) (now (a .line)) in
     let room = length (now (a .out)) in
     let it = c .before .before .before .before .before .before .word .ensures in
-    let letter = ap firstOf (sym it) ∙ sym (c .before .before .before .before .before .first-of .ensures) in
+    let letter = ap firstByte (sym it) ∙ sym (c .before .before .before .before .before .first-of .ensures) in
     let u = c .before .before .unhex in
     let other = c .before .before .before .before .match .rest in
     subst (λ (run : List ℕ). PutAtStart run (now (a .out)) (u .last .1 .0) (u .result)) (ap (λ (w : List ℕ). take room (unhexed w)) it ∙ sym (given-hex word (now (a .frame)) room (λ e. other .0 .0 .1 (sym letter ∙ e)) (λ e. other .0 .1 (sym letter ∙ e)) (λ e. other .1 (sym letter ∙ e)))) (u .ensures)
