@@ -22,7 +22,10 @@ use Rattle.framing.proofs.Passing.{leads-then, leads-byte, leads-before}
 use Rattle.dle.specs.Frame.{Message}
 use Rattle.dle.specs.Rules.{Phase, inside, size, gathered, held, onByte}
 use Rattle.dle.specs.Contract.{modeOf, link}
-use Rattle.dle.specs.Steps.{opened}
+
+-- an open frame with no 10 waiting, by its counts
+abbrev pub opened : ℕ → ℕ → ℕ → State
+opened count held noise = record { mode = 2; count = count; «open» = held; noise = noise }
 
 -- hunting, every byte but 10 is noise
 noise-step : (store : List ℕ) (s : State) (b : ℕ) → s .mode ≡ 0 → between 0x10 0x10 b ≡ false → stepOn link (s, store) b ≡ ((afterNoise s 1, store), none)

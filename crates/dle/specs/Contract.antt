@@ -32,7 +32,7 @@ numbersOf (error s n e) = record { sequence = s; node = n; length = 0; error = e
 
 -- the data of a message: the part of the store from place 3
 abbrev pub dataOf : List ℕ → Message → List ℕ
-dataOf store m = dataAt 3 (m .length) store
+dataOf store m = dataAt store 3 (m .length)
 
 -- the message that a caller has of its numbers and the store
 abbrev pub messageOf : List ℕ → Message → Frame.Message

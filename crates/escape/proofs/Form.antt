@@ -9,11 +9,18 @@ use lib.ListN.{length}
 use borrow.Author.Tests.{le-leb, leb-true}
 use Rattle.runs.proofs.Cases.{by-test, by-eqb, and-both}
 use Rattle.escape.specs.declared.Escapes.{Escapes}
-use Rattle.escape.specs.Form.{hides, runOf, uncodes, unhideBy, dleEscapes, expansionEscapes}
+use Rattle.escape.specs.Form.{hides, runOf, uncodes, unhideBy}
 use Rattle.escape.specs.Code.{Meaning, readFirst, readSecond, unhideUpTo}
 use Rattle.escape.specs.Dle as dle
 use Rattle.escape.specs.Expansion as expansion
 use Rattle.escape.proofs.Expansion.{by-byte}
+
+-- the three numbers of each code
+abbrev pub dleEscapes : Escapes
+dleEscapes = record { first = 0x10; escape = 0x10; top = 0x20 }
+
+abbrev pub expansionEscapes : Escapes
+expansionEscapes = record { first = 0xFD; escape = 0xFF; top = 0xFF }
 
 pub run-short : (escapes : Escapes) (b : ℕ) → length (runOf escapes b) ≤ 2
 run-short escapes b = by-test (λ run. length run ≤ 2) (hides escapes b) (λ _. omega arith) (λ _. omega arith)

@@ -167,9 +167,9 @@ module _ {L : Link} {code : Code} {opened waiting : ℕ → ℕ → ℕ → L .S
 
   -- what a function tells that unhides the rest of a piece into the store, up to the link's size
   pub gathers-told : (store out : List ℕ) (k i count used : ℕ) → k ≤ L .size → L .size ≤ length store → i ≤ length piece
-      → count ≡ length (unhideInto code (L .size - k) (take (length piece - i) (drop i piece)) store k .0)
-      → used ≡ unhideInto code (L .size - k) (take (length piece - i) (drop i piece)) store k .1
-      → out ≡ sets store k (unhideInto code (L .size - k) (take (length piece - i) (drop i piece)) store k .0)
+      → count ≡ length (unhideInto code (take (length piece - i) (drop i piece)) store k (L .size - k) .0)
+      → used ≡ unhideInto code (take (length piece - i) (drop i piece)) store k (L .size - k) .1
+      → out ≡ sets store k (unhideInto code (take (length piece - i) (drop i piece)) store k (L .size - k) .0)
       → Gathers L opened piece store k i out (k + count) (i + used) × (k + count ≤ L .size)
   gathers-told store out k i count used h room l e f g =
       let wire = take (length piece - i) (drop i piece) in

@@ -63,5 +63,5 @@ unhideUpTo code (suc n) (w ∷ x ∷ wire) =
     readFirst (code .plain w) (unhideUpTo code n (x ∷ wire)) (readSecond (code .after x) (unhideUpTo code n wire))
 
 -- the same into memory from a place on, as far as it goes
-abbrev pub unhideInto : Code → ℕ → List ℕ → List ℕ → ℕ → List ℕ × ℕ
-unhideInto code most wire memory at = unhideUpTo code (min most (length memory - at)) wire
+abbrev pub unhideInto : Code → List ℕ → List ℕ → ℕ → ℕ → List ℕ × ℕ
+unhideInto code wire memory at most = unhideUpTo code (min most (length memory - at)) wire

@@ -33,10 +33,3 @@ unhideBy escapes (suc n) (w ∷ x ∷ wire) =
     cond (hides escapes w)
     (cond (eqb w (escapes .escape) && uncodes escapes x) ((escapes .top - x) ∷ both .0, 2 + both .1) ([], 0))
     (w ∷ behind .0, 1 + behind .1)
-
--- the three numbers of each code
-abbrev pub dleEscapes : Escapes
-dleEscapes = record { first = 0x10; escape = 0x10; top = 0x20 }
-
-abbrev pub expansionEscapes : Escapes
-expansionEscapes = record { first = 0xFD; escape = 0xFF; top = 0xFF }

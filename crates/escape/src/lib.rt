@@ -316,19 +316,19 @@ pub fn expansion_hide_into(bytes: &[u8], out: &mut [u8], at: usize) -> Answer
 
 // Stores what DLE wire bytes stand for from a place on, as many as come whole and fit there, and so many at most.
 pub fn dle_unhide_into(wire: &[u8], out: &mut [u8], at: usize, most: usize) -> Unhidden
-    ensures count { λ r. ⌜ r .count ≡ length (unhideInto dle most (now (wire .entry)) (now (out .entry)) at .0) ⌝ }
-    ensures used { λ r. ⌜ r .used ≡ unhideInto dle most (now (wire .entry)) (now (out .entry)) at .1 ⌝ }
-    ensures put { λ r. ⌜ now (out .exit) ≡ sets (now (out .entry)) at (unhideInto dle most (now (wire .entry)) (now (out .entry)) at .0) ⌝ }
+    ensures count { λ r. ⌜ r .count ≡ length (unhideInto dle (now (wire .entry)) (now (out .entry)) at most .0) ⌝ }
+    ensures used { λ r. ⌜ r .used ≡ unhideInto dle (now (wire .entry)) (now (out .entry)) at most .1 ⌝ }
+    ensures put { λ r. ⌜ now (out .exit) ≡ sets (now (out .entry)) at (unhideInto dle (now (wire .entry)) (now (out .entry)) at most .0) ⌝ }
 {
     unhide_within(DLE, wire, out, at, most)
 }
 
 // Stores what expansion wire bytes stand for from a place on, as many as come whole and fit there, and so many at most.
 pub fn expansion_unhide_into(wire: &[u8], out: &mut [u8], at: usize, most: usize) -> Unhidden
-    ensures count { λ r. ⌜ r .count ≡ length (unhideInto expansion most (now (wire .entry)) (now (out .entry)) at .0) ⌝ }
-    ensures used { λ r. ⌜ r .used ≡ unhideInto expansion most (now (wire .entry)) (now (out .entry)) at .1 ⌝ }
+    ensures count { λ r. ⌜ r .count ≡ length (unhideInto expansion (now (wire .entry)) (now (out .entry)) at most .0) ⌝ }
+    ensures used { λ r. ⌜ r .used ≡ unhideInto expansion (now (wire .entry)) (now (out .entry)) at most .1 ⌝ }
     ensures put { λ r. ⌜ now (out .exit)
-        ≡ sets (now (out .entry)) at (unhideInto expansion most (now (wire .entry)) (now (out .entry)) at .0) ⌝ }
+        ≡ sets (now (out .entry)) at (unhideInto expansion (now (wire .entry)) (now (out .entry)) at most .0) ⌝ }
 {
     unhide_within(EXPANSION, wire, out, at, most)
 }

@@ -22,7 +22,10 @@ use Rattle.framing.proofs.Passing.{leads-before}
 use Rattle.expansion.specs.Frame.{Message}
 use Rattle.expansion.specs.Rules.{Phase, inside, size, gathered, held, onByte}
 use Rattle.expansion.specs.Contract.{modeOf, link}
-use Rattle.expansion.specs.Steps.{opened}
+
+-- an open frame with no FF waiting, by its counts
+abbrev pub opened : ℕ → ℕ → ℕ → State
+opened count held noise = record { mode = 1; count = count; «open» = held; noise = noise }
 
 -- hunting, every byte but FD is noise
 noise-step : (store : List ℕ) (s : State) (b : ℕ) → s .mode ≡ 0 → between 0xFD 0xFD b ≡ false → stepOn link (s, store) b ≡ ((afterNoise s 1, store), none)

@@ -30,7 +30,7 @@ numbersOf m = record { id = m .id; kind = m .kind; repeat = m .repeat; address =
 
 -- the data of a message: the part of the store from place 4
 abbrev pub dataOf : List ℕ → Message → List ℕ
-dataOf store m = dataAt 4 (m .length) store
+dataOf store m = dataAt store 4 (m .length)
 
 -- the message that a caller has of its numbers and the store
 abbrev pub messageOf : List ℕ → Message → Frame.Message

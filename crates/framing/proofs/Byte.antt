@@ -15,7 +15,7 @@ use Rattle.framing.proofs.Segments.{wireOpt, Accepts}
 
 -- data that stand in a store, behind a front and before a tail, are read there
 pub data-stands : (front run tail store : List ℕ) → take (length (front ++ (run ++ tail))) store ≡ front ++ (run ++ tail)
-    → dataAt (length front) (length run) store ≡ run
+    → dataAt store (length front) (length run) ≡ run
 data-stands front run tail store e =
     rw (le-leb (length front + length run) (length store) (omega (arith, ap length whole, length-append front (run ++ (tail ++ rest)), length-append run (tail ++ rest))))
     (ap (λ (x : List ℕ). take (length run) (drop (length front) x)) whole

@@ -18,7 +18,7 @@ use Rattle.framing.specs.Passing.{Leads}
 use Rattle.framing.proofs.Loop.{passed-more}
 
 -- the states of an open frame by the counts of gathered bytes, of open wire bytes and of noise: from place i, with m bytes gathered in the store,
--- a call goes on without an event to place j, with n gathered in the store after, whatever the other counts
+-- a call goes on without an event to place j, with n gathered in the store after, whatever the noise and any open count of 32 bits
 module _ (L : Link) where
   pub record Gathers (opened : ℕ → ℕ → ℕ → L .State) (piece store : List ℕ) (m i : ℕ) (after : List ℕ) (n j : ℕ) : Type 0 where
     pub onward : i ≤ j

@@ -38,6 +38,18 @@ all-in P (m ∷ ms) n a h = go (eqb n m) (eqb-true n m) (all-in P ms n (a .1)) h
     go true e k h = subst P (sym (e refl)) (a .0)
     go false e k h = k h
 
+-- every number of a list passes a test, which the checker works out
+abbrev pub every : (ℕ → Bool) → List ℕ → Bool
+every test [] = true
+every test (n ∷ ns) = test n && every test ns
+
+every-in : (test : ℕ → Bool) (ns : List ℕ) (n : ℕ) → every test ns ≡ true → isIn n ns ≡ true → test n ≡ true
+every-in test ns n h = all-in (λ n. test n ≡ true) ns n (all ns h)
+  where
+    all : (ns : List ℕ) → every test ns ≡ true → AllOf (λ n. test n ≡ true) ns
+    all [] h = tt
+    all (n ∷ ns) h = let t = and-both (test n) (every test ns) h in (t .0, all ns (t .1))
+
 pub in-more : (n : ℕ) (ms : List ℕ) (m : ℕ) → isIn n ms ≡ true → isIn n (m ∷ ms) ≡ true
 in-more n ms m h = go (eqb n m)
   where
@@ -256,7 +268,7 @@ module _ (L : Link) where
         let z : k ≡ n = cc in
         in-more n (1 ∷ numbers) 6 (subst (λ (x : ℕ). isIn x (1 ∷ numbers) ≡ true) z h)
 
-    pub read-listed : (run lent : List ℕ) (n : ℕ) → readOn L run lent .0 ≡ Answer.refused n → isIn n (6 ∷ 1 ∷ numbers) ≡ true
+    read-listed : (run lent : List ℕ) (n : ℕ) → readOn L run lent .0 ≡ Answer.refused n → isIn n (6 ∷ 1 ∷ numbers) ≡ true
     read-listed run lent n e =
         let f = callOn L (L .fresh, lent) run in
         settled-in (exactly (length run) (f .used) (L .noise (f .after .0))) (f .event) n (hears-known (L .fresh, lent) run fresh-known) e
@@ -264,11 +276,14 @@ module _ (L : Link) where
     read-first : (n : ℕ) (run lent : List ℕ) → callOn L (L .fresh, lent) run .event ≡ some (refusal n) → readOn L run lent .0 ≡ Answer.refused n
     read-first n run lent e = rw e
 
+    pub read-passes : (test : ℕ → Bool) → every test (6 ∷ 1 ∷ numbers) ≡ true → (run lent : List ℕ) (n : ℕ) → readOn L run lent .0 ≡ Answer.refused n → test n ≡ true
+    read-passes test t run lent n e = every-in test (6 ∷ 1 ∷ numbers) n t (read-listed run lent n e)
+
     -- the numbers of the reads are 6, 1 and those, in whatever order a list has them
-    pub reads-give : (list : List ℕ) → AllOf (λ n. isIn n list ≡ true) (6 ∷ 1 ∷ numbers) → AllOf (λ n. isIn n (6 ∷ 1 ∷ numbers) ≡ true) list → ReadsGive L list
+    pub reads-give : (list : List ℕ) → every (λ n. isIn n list) (6 ∷ 1 ∷ numbers) ≡ true → every (λ n. isIn n (6 ∷ 1 ∷ numbers)) list ≡ true → ReadsGive L list
     reads-give list there here n = (
-      λ h. all-in (ReadGives L) (6 ∷ 1 ∷ numbers) n gives (all-in (λ n. isIn n (6 ∷ 1 ∷ numbers) ≡ true) list n here h),
-      λ g. all-in (λ n. isIn n list ≡ true) (6 ∷ 1 ∷ numbers) n there (read-listed (g .run) (g .store) n (g .answers)),
+      λ h. all-in (ReadGives L) (6 ∷ 1 ∷ numbers) n gives (every-in (λ n. isIn n (6 ∷ 1 ∷ numbers)) list n here h),
+      λ g. read-passes (λ n. isIn n list) there (g .run) (g .store) n (g .answers),
     )
       where
         streams : (ms : List ℕ) → AllOf First ms → AllOf (ReadGives L) ms

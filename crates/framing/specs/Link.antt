@@ -54,8 +54,8 @@ isEvent (accepted v) = true
 isEvent (refused n) = true
 
 -- the data of a message in a store: n bytes from place k on, or nothing where they do not lie in the store
-abbrev pub dataAt : ℕ → ℕ → List ℕ → List ℕ
-dataAt k n store = cond (leb (k + n) (length store)) (take n (drop k store)) []
+abbrev pub dataAt : List ℕ → ℕ → ℕ → List ℕ
+dataAt store k n = cond (leb (k + n) (length store)) (take n (drop k store)) []
 
 module _ (L : Link) where
   -- a call of the link's writer: what it answers and leaves

@@ -6,7 +6,7 @@ use mathlib.Core.List.{List, [], _∷_}
 -- of tests, each with its number, the number of the first that fires; 0 where none does
 abbrev pub firstOf : List (Bool × ℕ) → ℕ
 firstOf [] = 0
-firstOf ((fires, number) ∷ tests) = cond fires number (firstOf tests)
+firstOf ((fires, fault) ∷ tests) = cond fires fault (firstOf tests)
 
 -- a writer, before it stores: 3 where the message may not be sent, then 2 where its frame does not fit
 abbrev pub writeFault : Bool → Bool → ℕ

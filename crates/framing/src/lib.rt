@@ -179,7 +179,7 @@ pub fn close(state: State) -> State
 
 // So many bytes of a store from a place on, as a part of it: the data of a message. Empty where they do not lie in the store.
 pub fn data_at(store: &[u8], place: usize, count: usize) -> &[u8]
-    ensures { λ r. ⌜ now r ≡ dataAt place count (now (store .entry)) ⌝ }
+    ensures { λ r. ⌜ now r ≡ dataAt (now (store .entry)) place count ⌝ }
 {
     if store.len() < place {
         return &store[..0];

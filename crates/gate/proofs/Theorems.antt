@@ -73,7 +73,7 @@ told-8 (some (refusal n)) h = let e : n ≡ 8 = cc in cc
 
 -- what the responding end makes of 8 where gathered bytes stand at the start of the store
 replied : (head : Bool) (a : Responder) (g store : List ℕ) → Stands g store
-    → responds head a (refused 8) store ≡ record { reply = some (reply head (getD g 0 0) 2 (getD g 3 0)); handsOut = false; after = a }
+    → responds a head (refused 8) store ≡ record { reply = some (reply head (getD g 0 0) 2 (getD g 3 0)); handsOut = false; after = a }
 replied head a g store r =
     let room : 4 ≤ length store = omega (arith, r .long, sym (length-take (length g) store) ∙ ap length (r .here)) in
     let here : (i : ℕ) → i < 8 → getD store i 0 ≡ getD g i 0 =

@@ -82,7 +82,7 @@ pub record Sendable (m : Frame.Message) : Type 0 where
 abbrev pub ReplySendable : Type 0
 ReplySendable =
     (head : Bool) (a : Responder) (t : Told Message) (store : List ℕ) (m : Frame.Message)
-    → responds head a t store .reply ≡ some m → Sendable m
+    → responds a head t store .reply ≡ some m → Sendable m
 
 -- where the receiver tells 8, what is made of its answer and of the store after the call is a check error with the id and, from the head, the
 -- address of the gathered bytes of the refused frame, which are at least eight
@@ -93,7 +93,7 @@ CheckErrorAsGathered =
     let g = gatheredBefore c piece in
     call .0 ≡ refused 8
     → (8 ≤ length g)
-    × (responds head a (call .0) (call .2 .1)
+    × (responds a head (call .0) (call .2 .1)
     ≡ record { reply = some (reply head (getD g 0 0) 2 (getD g 3 0)); handsOut = false; after = a })
 
 -- in a stream, cut anywhere, that a fresh receiver reads, they are the id and the address that the refused frame has on the wire
@@ -104,5 +104,5 @@ CheckErrorAsSent =
     call .0 ≡ refused 8
     → (g : List ℕ)
     × RefusedFrame (join pieces ++ take (call .1) piece) (call .2 .1) g
-    × (responds head a (call .0) (call .2 .1)
+    × (responds a head (call .0) (call .2 .1)
     ≡ record { reply = some (reply head (getD g 0 0) 2 (getD g 3 0)); handsOut = false; after = a })

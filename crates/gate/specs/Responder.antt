@@ -40,8 +40,8 @@ abbrev pub handOut : Responder → (id repeat : ℕ) → Bool × Responder
 handOut a id repeat = cond (isRepeated a id repeat) (false, a) (true, record { handed = true; last = id })
 
 -- an accepted request is acknowledged by type 1, handed out or not
-abbrev pub acknowledges : Bool → Responder → Message → Response
-acknowledges head a m =
+abbrev pub acknowledges : Responder → Bool → Message → Response
+acknowledges a head m =
     record {
       reply = some (reply head (m .id) 1 (m .address));
       handsOut = handOut a (m .id) (m .repeat) .0;
@@ -49,19 +49,19 @@ acknowledges head a m =
     }
 
 -- the answer to an 8: a check error with the gathered id, which stands at place 0 of the store; the gathered address stands at place 3
-abbrev pub reports : Bool → Responder → List ℕ → Response
-reports head a store = record { reply = some (reply head (getD store 0 0) 2 (getD store 3 0)); handsOut = false; after = a }
+abbrev pub reports : Responder → Bool → List ℕ → Response
+reports a head store = record { reply = some (reply head (getD store 0 0) 2 (getD store 3 0)); handsOut = false; after = a }
 
 -- an accepted frame: a request is acknowledged; types 1 and 2 are not for this end
-abbrev pub accepts : Bool → Responder → Message → Response
-accepts head a m = cond (eqb (m .kind) 0) (acknowledges head a m) (silent a)
+abbrev pub accepts : Responder → Bool → Message → Response
+accepts a head m = cond (eqb (m .kind) 0) (acknowledges a head m) (silent a)
 
 -- a refused frame: 8 is answered, but not out of a store below four bytes (which the papers leave free); other numbers get no reply
-abbrev pub refuses : Bool → Responder → ℕ → List ℕ → Response
-refuses head a n store = cond (eqb n 8 && leb 4 (length store)) (reports head a store) (silent a)
+abbrev pub refuses : Responder → Bool → ℕ → List ℕ → Response
+refuses a head n store = cond (eqb n 8 && leb 4 (length store)) (reports a head store) (silent a)
 
 -- what the receiver told, with the store as its call left it
-abbrev pub responds : Bool → Responder → Told Message → List ℕ → Response
-responds head a nothing store = silent a
-responds head a (accepted m) store = accepts head a m
-responds head a (refused n) store = refuses head a n store
+abbrev pub responds : Responder → Bool → Told Message → List ℕ → Response
+responds a head nothing store = silent a
+responds a head (accepted m) store = accepts a head m
+responds a head (refused n) store = refuses a head n store

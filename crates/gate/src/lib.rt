@@ -245,7 +245,7 @@ fn reply_to(head: bool, id: u8, kind: u8, address: u8) -> Reply
 
 // An accepted frame.
 fn respond_to_message(state: Responder, head: bool, message: Message) -> Response
-    ensures { λ r. ⌜ responseOf r ≡ accepts head (responderOf state) message ⌝ }
+    ensures { λ r. ⌜ responseOf r ≡ accepts (responderOf state) head message ⌝ }
 {
     if message.kind != REQUEST {
         return say_nothing(state);
@@ -269,10 +269,10 @@ fn respond_to_message(state: Responder, head: bool, message: Message) -> Respons
 }
 
 // A refused frame, whose gathered bytes stand at the front of the store.
-fn respond_to_refusal(state: Responder, head: bool, number: u8, store: &[u8]) -> Response
-    ensures { λ r. ⌜ responseOf r ≡ refuses head (responderOf state) number (now (store .entry)) ⌝ }
+fn respond_to_refusal(state: Responder, head: bool, fault: u8, store: &[u8]) -> Response
+    ensures { λ r. ⌜ responseOf r ≡ refuses (responderOf state) head fault (now (store .entry)) ⌝ }
 {
-    if number != refusal::WRONG_CHECK {
+    if fault != refusal::WRONG_CHECK {
         return say_nothing(state);
     }
     if store.len() < 4 {
@@ -288,12 +288,12 @@ fn respond_to_refusal(state: Responder, head: bool, number: u8, store: &[u8]) ->
 
 // What to do with the receiver's answer, from the store as that call left it.
 pub fn respond(state: Responder, head: bool, event: Event, store: &[u8]) -> Response
-    ensures { λ r. ⌜ responseOf r ≡ responds head (responderOf state) (toldOf event) (now (store .entry)) ⌝ }
+    ensures { λ r. ⌜ responseOf r ≡ responds (responderOf state) head (toldOf event) (now (store .entry)) ⌝ }
 {
     match event {
         Event::Nothing => say_nothing(state),
         Event::Accepted(message) => respond_to_message(state, head, message),
-        Event::Refused(number) => respond_to_refusal(state, head, number, store),
+        Event::Refused(fault) => respond_to_refusal(state, head, fault, store),
     }
 }
 

@@ -7,7 +7,7 @@ use lib.Dec.{eqb, leb}
 use Rattle.framing.specs.Link.{Link}
 use Rattle.framing.specs.Refusals.{isIn}
 use Rattle.framing.proofs.Lawful.{Lawful}
-use Rattle.framing.proofs.Refusals.{Given, writes-give}
+use Rattle.framing.proofs.Refusals.{every, Given, reads-give, writes-give}
 use Rattle.framing.proofs.Whole.{only-frames, frames-read}
 use Rattle.pcs.specs.Contract as Pcs
 use Rattle.pcs.specs.Claims as PcsClaims
@@ -28,7 +28,7 @@ use Rattle.expansion.proofs.Numbers as expansion-numbers
 use Rattle.host.specs.Read.{refusalOf, pcsCode, mduCode, dleCode, expansionCode, lengthOf, kindOf, fieldOf}
 use Rattle.host.specs.Claims.{pcsRefusals, mduRefusals, dleRefusals, expansionRefusals, FrameBound, PartTold, CallsOf}
 use Rattle.host.proofs.Bounds as bounds
-use Rattle.host.proofs.Refusals.{every, reads-give, refusals-fit, refusal-told}
+use Rattle.host.proofs.Refusals.{refusals-fit, refusal-told}
 use Rattle.host.proofs.Parts.{length-told, kind-told, field-told}
 use Rattle.host.proofs.Fields.{pcs-packs, pcs-zero, mdu-packs, mdu-zero, dle-packs, dle-zero, expansion-packs, expansion-zero}
 

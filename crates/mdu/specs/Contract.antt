@@ -60,7 +60,7 @@ numbersOf m = record { address = m .address; length = length (m .body) }
 
 -- the body of a message: the part of the store from place 6
 abbrev pub dataOf : List ℕ → Message → List ℕ
-dataOf store m = dataAt 6 (m .length) store
+dataOf store m = dataAt store 6 (m .length)
 
 -- the message that a caller has of its numbers and the store
 abbrev pub messageOf : List ℕ → Message → Frame.Message

@@ -22,7 +22,10 @@ use Rattle.framing.proofs.Passing.{leads-before, gathers-before}
 use Rattle.pcs.specs.Frame.{Message}
 use Rattle.pcs.specs.Rules.{Phase, inside, size, gathered, held, onByte}
 use Rattle.pcs.specs.Contract.{modeOf, frontOf, link}
-use Rattle.pcs.specs.Steps.{opened}
+
+-- an open frame, by its counts
+abbrev pub opened : ℕ → ℕ → ℕ → State
+opened count held noise = record { mode = 1; count = count; «open» = held; noise = noise }
 
 -- hunting, every byte but the start mark is noise
 noise-step : (store : List ℕ) (s : State) (b : ℕ) → s .mode ≡ 0 → between 253 253 b ≡ false → stepOn link (s, store) b ≡ ((afterNoise s 1, store), none)

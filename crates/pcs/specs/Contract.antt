@@ -55,7 +55,7 @@ withData m d = withFields (m .receiver) (m .sender) (m .kind) (m .number) (m .«
 
 -- the data of a message: the part of the store from place 0
 abbrev pub dataOf : List ℕ → Message → List ℕ
-dataOf store m = dataAt 0 (m .length) store
+dataOf store m = dataAt store 0 (m .length)
 
 -- the message that a caller has of its numbers and the store
 abbrev pub messageOf : List ℕ → Message → Frame.Message

@@ -188,7 +188,7 @@ fn told_of(numbers: Message, unpacked: Answer) -> Event
             message.length = count;
             Event::Accepted(message)
         }
-        Answer::Refused(refused) => Event::Refused(refused),
+        Answer::Refused(fault) => Event::Refused(fault),
     }
 }
 

@@ -18,7 +18,7 @@ IsSignedSize size = (size ≡ 2) ⊎ (size ≡ 4)
 
 -- a signed size, and fares that it holds
 pub record Held (size : ℕ) (fares : List ℤ) : Type 0 where
-  pub signed : IsSignedSize size
+  pub sized : IsSignedSize size
   pub all : every (signedFares .holds size) fares ≡ true
 
 -- the record has count elements of size bytes behind its header, and the run has room for them

@@ -106,7 +106,7 @@ pub fn written(answer: Answer, name: &[u8], out: &[u8])
             word(name);
             bytes(&out[..n]);
         }
-        Answer::Refused(number) => named(b"refused", memory::wide(number)),
+        Answer::Refused(fault) => named(b"refused", memory::wide(fault)),
     }
     mix(b"memory", out);
 }

@@ -32,7 +32,7 @@ fn read_unsigned(line: &[u8], fares: &mut [u32]) {
 fn read_signed(line: &[u8], fares: &mut [i32]) {
     let mut k = 0;
     while k < fares.len() {
-        fares[k] = signs::signed(line, k % 65536 + 8);
+        fares[k] = signs::signed_at(line, k % 65536 + 8);
         k += 1;
     }
 }

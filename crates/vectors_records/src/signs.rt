@@ -42,7 +42,7 @@ fn negative(value: u32) -> i32 {
 }
 
 // The number of a word that may begin with a minus sign.
-pub(crate) fn signed(line: &[u8], k: usize) -> i32 {
+pub(crate) fn signed_at(line: &[u8], k: usize) -> i32 {
     let value = words::number32(line, k);
     if words::first(line, k) == b'-' {
         return negative(value);

@@ -6,8 +6,7 @@ use Rattle.framing.proofs.Passing.{gathers-leads}
 use Rattle.escape.proofs.Passing.{gathers-told}
 use Rattle.dle.specs.Rules.{size}
 use Rattle.dle.specs.Contract.{link}
-use Rattle.dle.specs.Steps.{opened}
-use Rattle.dle.proofs.Passing.{rules}
+use Rattle.dle.proofs.Passing.{opened, rules}
 use borrow.Author.Needs.{needs}
 use Rattle.dle.proofs.pass_bytes.Statement.{statement}
 use Rattle.dle.proofs.pass_bytes.Tie as tie

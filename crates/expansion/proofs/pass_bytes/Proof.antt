@@ -6,8 +6,7 @@ use Rattle.framing.proofs.Passing.{gathers-leads}
 use Rattle.escape.proofs.Passing.{gathers-told}
 use Rattle.expansion.specs.Rules.{size}
 use Rattle.expansion.specs.Contract.{link}
-use Rattle.expansion.specs.Steps.{opened}
-use Rattle.expansion.proofs.Passing.{rules}
+use Rattle.expansion.proofs.Passing.{opened, rules}
 use borrow.Author.Needs.{needs}
 use Rattle.expansion.proofs.pass_bytes.Statement.{statement}
 use Rattle.expansion.proofs.pass_bytes.Tie as tie

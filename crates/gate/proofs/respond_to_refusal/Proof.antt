@@ -4,7 +4,7 @@ use Rattle.gate.proofs.respond_to_refusal.Statement.{statement}
 use Rattle.gate.proofs.respond_to_refusal.Tie as tie
 
 returns : tie.Need-returns
-returns c = simp (ne-eqb (c .before .before .before .args .number) 8 (c .before .if1 .taken)) (c .say-nothing .ensures)
+returns c = simp (ne-eqb (c .before .before .before .args .fault) 8 (c .before .if1 .taken)) (c .say-nothing .ensures)
 
 returns-2 : tie.Need-returns-2
 returns-2 c = simp (eq-eqb _ _ (c .before .before .if1 .left), lt-leb _ _ (c .before .if2 .taken)) (c .say-nothing2 .ensures)

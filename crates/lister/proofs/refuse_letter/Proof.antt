@@ -22,7 +22,7 @@ returns-2 c =
     let stored = c .before .before .before .before .refused .ensures in
     let counted = c .before .count-of .ensures in (
       λ store. refused-then store (now (a .piece)) (now (a .text)) (pre .0) (pre .1) stored counted (c .if1 .left),
-      (omega arith, first-fits (Text.refused (a .number)) (now (a .text)) (now (a .piece)) (unlisted (now (a .piece)) (now (a .piece))) stored counted (c .if1 .left) .1),
+      (omega arith, first-fits (Text.refused (a .fault)) (now (a .text)) (now (a .piece)) (unlisted (now (a .piece)) (now (a .piece))) stored counted (c .if1 .left) .1),
     )
 
 pub refuse-letter-spec : {M : Type 1} → statement M

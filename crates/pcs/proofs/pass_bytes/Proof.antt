@@ -4,8 +4,7 @@ use Prim.Native.Nat.{_+_, _-_, _%_, _^_, _<_}
 use mathlib.Core.Path.{_≡_, _∙_}
 use Rattle.framing.proofs.Passing.{gathers-leads}
 use Rattle.pcs.specs.Contract.{link}
-use Rattle.pcs.specs.Steps.{opened}
-use Rattle.pcs.proofs.Passing.{gathers-plain}
+use Rattle.pcs.proofs.Passing.{opened, gathers-plain}
 use Rattle.pcs.proofs.pass_bytes.Statement.{statement}
 use Rattle.pcs.proofs.pass_bytes.Tie as tie
 

@@ -48,7 +48,7 @@ from-signed-requires c κs =
     let a = c .before .before .before .before .args in
     let i = c .before .before .loop .i in
     let pre = c .before .before .before .before .pre in
-    (pre .1 .signed, rw (fare-is c) (every-at (signedFares .holds (a .size)) (a .fares .now) i (pos 0) (c .before .loop-test .taken) (pre .1 .all)))
+    (pre .1 .sized, rw (fare-is c) (every-at (signedFares .holds (a .size)) (a .fares .now) i (pos 0) (c .before .loop-test .taken) (pre .1 .all)))
 
 loop-again : tie.Need-loop-again Inv-loop μ-loop
 loop-again c =

@@ -46,7 +46,7 @@ put-header-requires c κs = (omega arith, send-few signedFares _ _ _ (may (c .be
 put-signed-requires : tie.Need-put-signed-requires
 put-signed-requires c κs =
     let s = may (c .before .before .before .before .before .before) in
-    (omega (arith, c .before .before .before .put-header .kept .1 .1 .1 .0, c .before .before .before .before .before .if4 .left), record { signed = send-signed-size _ (s .form-is) (s .sign); all = s .held })
+    (omega (arith, c .before .before .before .put-header .kept .1 .1 .1 .0, c .before .before .before .before .before .if4 .left), record { sized = send-signed-size _ (s .form-is) (s .sign); all = s .held })
 
 returns-5 : tie.Need-returns-5
 returns-5 c =
