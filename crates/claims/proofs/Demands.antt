@@ -24,11 +24,14 @@ lawfulOf dle = dle-lawful.lawful
 lawfulOf expansion = expansion-lawful.lawful
 
 pub demand1 : Demand1
-demand1 pcs = record { gives-exactly = Pcs.gives-exactly; receive-gives = Pcs.receive-gives; stores-gathered = Pcs.stores-gathered }
-demand1 mdu = record { gives-exactly = Mdu.gives-exactly; receive-gives = Mdu.receive-gives; stores-gathered = Mdu.stores-gathered }
-demand1 dle = record { gives-exactly = Dle.gives-exactly; receive-gives = Dle.receive-gives; stores-gathered = Dle.stores-gathered }
+demand1 pcs =
+    record { gives-exactly = Pcs.gives-exactly; receive-gives = Pcs.receive-gives; stores-gathered = Pcs.stores-gathered; data-within = Pcs.data-within }
+demand1 mdu =
+    record { gives-exactly = Mdu.gives-exactly; receive-gives = Mdu.receive-gives; stores-gathered = Mdu.stores-gathered; data-within = Mdu.data-within }
+demand1 dle =
+    record { gives-exactly = Dle.gives-exactly; receive-gives = Dle.receive-gives; stores-gathered = Dle.stores-gathered; data-within = Dle.data-within }
 demand1 expansion =
-    record { gives-exactly = Expansion.gives-exactly; receive-gives = Expansion.receive-gives; stores-gathered = Expansion.stores-gathered }
+    record { gives-exactly = Expansion.gives-exactly; receive-gives = Expansion.receive-gives; stores-gathered = Expansion.stores-gathered; data-within = Expansion.data-within }
 
 pub demand2 : Demand2
 demand2 w =

@@ -37,3 +37,10 @@ StoresGathered pcs = PcsClaims.StoresGathered
 StoresGathered mdu = MduClaims.StoresGathered
 StoresGathered dle = DleClaims.StoresGathered
 StoresGathered expansion = ExpansionClaims.StoresGathered
+
+-- how much data a message has that a call tells on each
+abbrev pub DataWithin : Which → Type 0
+DataWithin pcs = PcsClaims.DataWithin
+DataWithin mdu = MduClaims.DataWithin
+DataWithin dle = DleClaims.DataWithin
+DataWithin expansion = ExpansionClaims.DataWithin

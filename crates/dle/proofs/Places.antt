@@ -1,22 +1,26 @@
 -- What a call leaves in the store.
 use Prim.Native.Nat.{ℕ, _≤_}
 use mathlib.Core.Path.{_≡_, refl}
+use mathlib.Core.Bool.{true}
 use mathlib.Core.List.{List, [], _∷_, _++_}
 use mathlib.Core.Option.{Option, some}
 use native.Mathlib.Omega.{arith}
 use lib.ListN.{length, length-append}
+use lib.Dec.{leb}
+use borrow.Author.Tests.{leb-true}
 use Rattle.runs.specs.Runs.{over}
-use Rattle.runs.proofs.Cases.{by-eqb, by-ltb}
+use Rattle.runs.proofs.Cases.{by-eqb, by-ltb, and-both}
 use Rattle.framing.specs.Segment.{Segment}
 use Rattle.framing.specs.declared.State.{State}
 use Rattle.framing.proofs.Byte.{by-end}
+use Rattle.framing.proofs.Segments.{Accepts, accepts-map}
 use Rattle.framing.proofs.States.{known-count}
 use Rattle.framing.proofs.Places.{over-first, Laid, Storing}
 use Rattle.escape.specs.Code.{Meaning, byte, waits, start, end, wrong, meaning}
 use Rattle.escape.specs.Dle.{dle}
-use Rattle.dle.specs.Frame.{Message}
+use Rattle.dle.specs.Frame.{Message, content, error, ok}
 use Rattle.dle.specs.Rules.{Phase, hunting, half, inside, size, gathered, held, judge, act, onByte}
-use Rattle.dle.specs.Contract.{phaseOf, link}
+use Rattle.dle.specs.Contract.{phaseOf, numbersOf, link}
 use Rattle.dle.proofs.OnByte.{Judged, judge-ends, takes}
 use Rattle.dle.proofs.Lawful.{phase-of}
 use Rattle.dle.proofs.Steps.{counted}
@@ -58,3 +62,13 @@ storing =
       phase-after = λ s q o store _. phase-of q 0 store;
       lays = lays;
     }
+
+-- a message that may be sent has at most 255 bytes of data
+sent-few : (m : Message) → ok m ≡ true → numbersOf m .length ≤ 255
+sent-few (content s n d) h = leb-true (length d) 255 (and-both (leb 1 (length d)) (leb (length d) 255) h .1)
+sent-few (error s n e) h = omega arith
+
+-- an accepted message is one
+pub few : (p : Phase) (b : ℕ) → storing .Fit p → Accepts (λ (m : Message). numbersOf m .length ≤ 255) (onByte p b .1)
+unfolding storing
+few p b h = accepts-map _ _ (onByte p b .1) (λ m t. sent-few m (t .may)) (takes p b h .accepts)

@@ -3,10 +3,10 @@ use Rattle.framing.proofs.Refusals as any
 use Rattle.framing.proofs.Places as Places
 use mathlib.Core.List.{[]}
 use Rattle.dle.specs.Contract.{link}
-use Rattle.dle.specs.Claims.{streamNumbers, GivesExactly, ReceiveGives, StoresGathered}
+use Rattle.dle.specs.Claims.{streamNumbers, GivesExactly, ReceiveGives, StoresGathered, DataWithin}
 use Rattle.dle.proofs.Lawful.{lawful}
 use Rattle.dle.proofs.Numbers.{given}
-use Rattle.dle.proofs.Places.{storing}
+use Rattle.dle.proofs.Places.{storing, few}
 
 -- a stream gives exactly these numbers
 pub gives-exactly : GivesExactly
@@ -19,3 +19,7 @@ receive-gives = any.receive-gives link lawful streamNumbers given
 -- what a call leaves in the store, place by place
 pub stores-gathered : StoresGathered
 stores-gathered = Places.stores-gathered link (λ g b. g) (λ m. []) storing
+
+-- how much data a message has that a call tells
+pub data-within : DataWithin
+data-within = Places.data-within link (λ g b. g) (λ m. []) storing (λ v. v .length) 255 few

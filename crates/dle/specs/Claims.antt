@@ -1,6 +1,7 @@
 -- What is claimed of the DLE link besides the claims on every link.
 use Prim.Native.Nat.{ℕ}
 use mathlib.Core.List.{List, [], _∷_}
+use Rattle.framing.specs.Claims as Claims
 use Rattle.framing.specs.Refusals as Refusals
 use Rattle.framing.specs.Places as Places
 use Rattle.dle.specs.Contract.{link}
@@ -18,3 +19,7 @@ ReceiveGives = Refusals.ReceiveGives link streamNumbers
 -- a byte that makes an event is not gathered; nothing is unpacked
 abbrev pub StoresGathered : Type 0
 StoresGathered = Places.StoresGathered link (λ g b. g) (λ m. [])
+
+-- no call tells a message with more than 255 bytes of data
+abbrev pub DataWithin : Type 0
+DataWithin = Claims.DataWithin link (λ v. v .length) 255

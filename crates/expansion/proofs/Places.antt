@@ -4,18 +4,19 @@ use mathlib.Core.Path.{_≡_, refl}
 use mathlib.Core.List.{List, [], _∷_, _++_}
 use mathlib.Core.Option.{Option, some}
 use native.Mathlib.Omega.{arith}
-use lib.ListN.{length, length-append}
+use lib.ListN.{length, length-append, length-take, length-drop}
 use Rattle.runs.specs.Runs.{over}
 use Rattle.runs.proofs.Cases.{by-eqb, by-ltb}
 use Rattle.framing.specs.Segment.{Segment}
 use Rattle.framing.specs.declared.State.{State}
 use Rattle.framing.proofs.Byte.{by-end}
+use Rattle.framing.proofs.Segments.{Accepts}
 use Rattle.framing.proofs.States.{known-count}
 use Rattle.framing.proofs.Places.{over-first, Laid, Storing}
 use Rattle.escape.specs.Code.{Meaning, byte, waits, start, end, wrong, meaning}
 use Rattle.escape.specs.Expansion.{expansion}
 use Rattle.expansion.specs.Frame.{Message}
-use Rattle.expansion.specs.Rules.{Phase, hunting, inside, size, gathered, held, judge, act, onByte}
+use Rattle.expansion.specs.Rules.{Phase, hunting, inside, size, gathered, held, faultOf, judge, act, onByte}
 use Rattle.expansion.specs.Contract.{phaseOf, link}
 use Rattle.expansion.proofs.OnByte.{Judged, judge-ends}
 use Rattle.expansion.proofs.Lawful.{phase-of}
@@ -54,3 +55,20 @@ storing =
       phase-after = λ s q o store _. phase-of q 0 store;
       lays = lays;
     }
+
+abbrev Few : Phase × Option (Segment Message) → Type 0
+Few r = Accepts (λ (m : Message). length (m .payload) ≤ 1024) (r .1)
+
+act-few : (g before wire : List ℕ) (m : Meaning) → length g ≤ size → Few (act g before wire m)
+act-few g before wire (byte v) h = by-ltb Few (length g) size (λ _. tt) (λ _. tt)
+act-few g before wire waits h = tt
+act-few g before wire start h = tt
+act-few g before wire end h =
+    by-eqb (λ (s : Segment Message). Few (hunting, some s)) (faultOf g) 0 (λ _. simp (length-take, length-drop) (omega arith)) (λ _. tt)
+act-few g before wire wrong h = tt
+
+-- an accepted message has no more data than fits behind its header and before its CRC
+pub few : (p : Phase) (b : ℕ) → storing .Fit p → Few (onByte p b)
+unfolding storing
+few hunting b h = by-eqb Few b 0xFD (λ _. tt) (λ _. tt)
+few (inside w g) b h = act-few g (held (inside w g)) (held (inside w g) ++ (b ∷ [])) (meaning expansion w b) h

@@ -7,10 +7,10 @@ use Rattle.escape.proofs.Expansion.{expansion-bound}
 use Rattle.checksum.specs.Claims.{Crc32Detects}
 use Rattle.checksum.proofs.CheckValue.{crc32-detects}
 use Rattle.expansion.specs.Contract.{link}
-use Rattle.expansion.specs.Claims.{streamNumbers, GivesExactly, ReceiveGives, StoresGathered, FrameBound, RefusedHeader, RefusedAsSent}
+use Rattle.expansion.specs.Claims.{streamNumbers, GivesExactly, ReceiveGives, StoresGathered, DataWithin, FrameBound, RefusedHeader, RefusedAsSent}
 use Rattle.expansion.proofs.Lawful.{lawful}
 use Rattle.expansion.proofs.Numbers.{given}
-use Rattle.expansion.proofs.Places.{storing}
+use Rattle.expansion.proofs.Places.{storing, few}
 use Rattle.expansion.proofs.Judge.{content, content-fits}
 use Rattle.expansion.proofs.Refused as wrong
 
@@ -25,6 +25,10 @@ receive-gives = any.receive-gives link lawful streamNumbers given
 -- what a call leaves in the store, place by place
 pub stores-gathered : StoresGathered
 stores-gathered = Places.stores-gathered link (λ g b. g) (λ m. []) storing
+
+-- how much data a message has that a call tells
+pub data-within : DataWithin
+data-within = Places.data-within link (λ g b. g) (λ m. []) storing (λ v. v .length) 1024 few
 
 pub frame-bound : FrameBound
 frame-bound m h = expansion-bound (content m) (content-fits m h)

@@ -10,6 +10,7 @@ use Rattle.framing.specs.Receiver.{last, drive, join}
 use Rattle.framing.specs.Segment.{Segment, refusedFrame, refusal, wires}
 use Rattle.framing.specs.Link.{Lent, stepOn, callOn, called}
 use Rattle.framing.specs.Claims.{segments}
+use Rattle.framing.specs.Claims as Claims
 use Rattle.framing.specs.Refusals as Refusals
 use Rattle.framing.specs.Places as Places
 use Rattle.expansion.specs.Frame.{Message, ok, enclose, frame}
@@ -29,6 +30,10 @@ ReceiveGives = Refusals.ReceiveGives link streamNumbers
 -- a byte that makes an event is not gathered; nothing is unpacked
 abbrev pub StoresGathered : Type 0
 StoresGathered = Places.StoresGathered link (λ g b. g) (λ m. [])
+
+-- no call tells a message with more than 1,024 bytes of data
+abbrev pub DataWithin : Type 0
+DataWithin = Claims.DataWithin link (λ v. v .length) 1024
 
 -- no frame has more than 2,066 bytes on the wire
 abbrev pub FrameBound : Type 0

@@ -10,7 +10,7 @@ use lib.ListN.{length, take, length-append, length-drop}
 use lib.Seq.{sets}
 use borrow.Author.Tests.{le-leb}
 use Rattle.runs.specs.Runs.{Bytes, over}
-use Rattle.runs.proofs.Bytes.{bytes-append, bytes-left, bytes-right}
+use Rattle.runs.proofs.Bytes.{bytes-append, bytes-left, bytes-right, bytes-more}
 use Rattle.runs.proofs.Run.{part-sets, sets-over}
 use Rattle.framing.specs.Answer.{Outcome, done}
 use Rattle.framing.specs.Receiver.{Fed, stop, feed, events, last, drive, join}
@@ -182,26 +182,49 @@ module _ (L : Link) (laws : Lawful L) where
       rw (r .stands .known, le-leb (L .size) (length (c .1)) (r .stands .room))
       (feed-follows (stepOn L) view (step (L .onByte)) Counts (λ _. refl) view-some (λ c a b y r. alike c a b y (r .stands)) c a bs y r)
 
-  -- the store keeps its length
-  step-length : (c : Lent L) (a : Config (L .Phase)) (b : ℕ) → b < 256 → Counts c a → length (stepOn L c b .0 .1) ≡ length (c .1)
-  step-length c a b y r =
-      subst (λ (p : L .Phase). length (over (L .front p b) (c .1)) ≡ length (c .1)) (sym (r .stands .phase))
-      (over-length (L .front (a .phase) b) (c .1) (omega (arith, laws .takes (a .phase) b y (r .stands .good) .fits, r .stands .room)))
+  -- what is known of an event: an accepted message may be sent, and its numbers fit their types
+  abbrev pub Sound : Option (Event (L .Message)) → Type 0
+  Sound none = Unit
+  Sound (some (message m)) = (L .ok m ≡ true) × L .Typed m
+  Sound (some (refusal n)) = Unit
 
-  feed-length : (c : Lent L) (a : Config (L .Phase)) (bs : List ℕ) → Bytes bs → Counts c a → length (feed (stepOn L) c bs .after .1) ≡ length (c .1)
-  feed-length c a [] y r = refl
-  feed-length c a (b ∷ bs) y r =
-      go (stepOn L c b .1) (step-length c a b (y 0) r)
-      (feed-length (stepOn L c b .0) (step (L .onByte) a b .0) bs (λ i. y (suc i)) (alike c a b (y 0) (r .stands) .1))
+  abbrev HeldBytes : L .Phase → Type 0
+  HeldBytes p = Bytes (L .held p)
+
+  -- where what is held and what comes are bytes, the event is so, and what is then held are bytes
+  feed-sound : (p : L .Phase) (n : ℕ) (bs : List ℕ) → Bytes bs → Good p → HeldBytes p
+      → let f = feed (step (L .onByte)) (at p n) bs in Sound (f .event) × HeldBytes (f .after .phase)
+  feed-sound p n [] y g h = (tt, h)
+  feed-sound p n (b ∷ bs) y g h =
+      go (L .onByte p b .1) t (laws .takes p b (y 0) g .accepts)
+      (feed-sound q (noiseAfter (L .onByte p b .1) n) bs (λ i. y (suc i)) (good-next p b (y 0) g) (bytes-right (wireOpt (L .frame) (L .onByte p b .1)) (L .held q) t))
     where
-      go : (o : Option (Event (L .Message))) → length (stepOn L c b .0 .1) ≡ length (c .1)
-          → length (feed (stepOn L) (stepOn L c b .0) bs .after .1) ≡ length (stepOn L c b .0 .1)
-          → length (stop (stepOn L c b .0) o (feed (stepOn L) (stepOn L c b .0) bs) .after .1) ≡ length (c .1)
-      go none h k = k ∙ h
-      go (some e) h k = h
+      q : L .Phase
+      q = L .onByte p b .0
 
-  pub called-length : (c : Lent L) (a : Config (L .Phase)) (bs : List ℕ) → Bytes bs → Counts c a → length (called L c bs .after .1) ≡ length (c .1)
-  called-length c a bs y r = rw (r .stands .known, le-leb (L .size) (length (c .1)) (r .stands .room)) (feed-length c a bs y r)
+      t : Bytes (wireOpt (L .frame) (L .onByte p b .1) ++ L .held q)
+      t = subst Bytes (sym (laws .takes p b (y 0) g .holds)) (bytes-more (L .held p) b h (y 0))
+
+      next : Config (L .Phase)
+      next = at q (noiseAfter (L .onByte p b .1) n)
+
+      rest : Fed (Event (L .Message)) (Config (L .Phase))
+      rest = feed (step (L .onByte)) next bs
+
+      go : (o : Option (Segment (L .Message))) → Bytes (wireOpt (L .frame) o ++ L .held q) → Accepts (Taken L (L .gathered p) (L .front p b) q) o
+          → Sound (rest .event) × HeldBytes (rest .after .phase)
+          → Sound (stop next (eventOf o) rest .event) × HeldBytes (stop next (eventOf o) rest .after .phase)
+      go none w a ih = ih
+      go (some (noise x)) w a ih = ih
+      go (some (refusedFrame k x)) w a ih = (tt, bytes-right x (L .held q) w)
+      go (some (acceptedFrame m)) w a ih = ((a .may, a .typed (bytes-left (L .frame m) (L .held q) w)), bytes-right (L .frame m) (L .held q) w)
+
+  -- so of a call
+  pub called-sound : (c : Lent L) (a : Config (L .Phase)) (bs : List ℕ) → Bytes bs → Counts c a → HeldBytes (a .phase)
+      → Sound (called L c bs .event) × HeldBytes (feed (step (L .onByte)) a bs .after .phase)
+  called-sound c a bs y r h =
+      let s = feed-sound (a .phase) (a .noise) bs y (r .stands .good) h in
+      (subst Sound (sym (follows c a bs y r .event)) (s .0), s .1)
 
   -- the same of at least a byte, where `open` holds anything at first
   follows-from : (c : Lent L) (a : Config (L .Phase)) (bs : List ℕ) → 0 < length bs → Bytes bs → Stands c a → Follows Counts (called L c bs) (feed (step (L .onByte)) a bs)

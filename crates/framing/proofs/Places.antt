@@ -1,4 +1,4 @@
--- What a call leaves in the store, over any link that shows it of each byte.
+-- What a call leaves in the store, and how much data a message has that it tells, over any link that shows it of each byte.
 use Prim.Native.Nat.{ℕ, suc, _+_, _-_, _≤_, _<_}
 use mathlib.Core.Path.{_≡_, refl, ap, sym, _∙_, subst}
 use mathlib.Core.Bool.{Bool, true, false}
@@ -12,10 +12,13 @@ use lib.Dec.{leb}
 use borrow.Author.Tests.{le-leb, leb-true, leb-false}
 use Rattle.runs.specs.Runs.{over}
 use Rattle.framing.specs.Receiver.{Fed, stop, feed}
-use Rattle.framing.specs.Segment.{Segment, Event, eventOf}
-use Rattle.framing.specs.Link.{Link, Lent, stepOn}
+use Rattle.framing.specs.Segment.{Segment, noise, refusedFrame, acceptedFrame, Event, message, refusal, eventOf}
+use Rattle.framing.specs.Link.{Link, Lent, stepOn, refuses, told, accepted}
+use Rattle.framing.specs.Claims.{DataWithin}
 use Rattle.framing.specs.Places.{Places, gatheredBy, unpackedBy, StoresGathered}
+use Rattle.framing.proofs.Tests.{by-two}
 use Rattle.framing.proofs.Feed.{used-some}
+use Rattle.framing.proofs.Segments.{Accepts}
 
 -- a run laid over memory, and what lies behind it
 module _ (run memory : List ℕ) where
@@ -84,6 +87,16 @@ module _ (L : Link) (withLast : List ℕ → ℕ → List ℕ) (unpacks : L .Mes
         → take (length (L .gathered q)) store ≡ L .gathered q → L .phaseOf (L .stateAfter s q o) store ≡ q
     pub lays : (p : L .Phase) (b : ℕ) → Fit p → Laid (L .gathered p) b (L .front p b) (L .onByte p b)
 
+  -- a state and a store after a byte in a phase
+  abbrev after : Lent L → ℕ → L .Phase → Lent L
+  after c b p = (L .stateAfter (c .0) (L .onByte p b .0) (L .onByte p b .1), over (L .front p b) (c .1))
+
+  -- where it makes no event they stand for the next phase
+  goes-on : (laws : Storing) (c : Lent L) (p : L .Phase) (b : ℕ) → laws .Fit p → L .front p b ≡ L .gathered (L .onByte p b .0)
+      → L .phaseOf (after c b p .0) (after c b p .1) ≡ L .onByte p b .0
+  goes-on laws c p b h e =
+      laws .phase-after (c .0) (L .onByte p b .0) (L .onByte p b .1) (after c b p .1) (laws .fit-next p b h) (rw e (take-append-seam (L .gathered (L .onByte p b .0)) _))
+
   module _ (laws : Storing) (store : List ℕ) (room : L .size ≤ length store) where
     abbrev given : L .Phase → List ℕ → Fed (Event (L .Message)) (Lent L) → List ℕ
     given p piece f = gatheredBy L withLast unpacks p piece (f .used) (f .event)
@@ -98,17 +111,17 @@ module _ (L : Link) (withLast : List ℕ → ℕ → List ℕ) (unpacks : L .Mes
         → Left p piece (feed (stepOn L) c piece)
     left c p [] e h s = record { lies = s; short = laws .fits p h; shorter = omega arith }
     left c p (b ∷ bs) e h s =
-        subst (λ (x : L .Phase). Left p (b ∷ bs) (stop (next x) (eventOf (L .onByte x b .1)) (feed (stepOn L) (next x) bs))) (sym e)
-        (go (eventOf (L .onByte p b .1)) refl (laws .lays p b h .laid) (left (next p) q bs))
+        subst (λ (x : L .Phase). Left p (b ∷ bs) (stop (after c b x) (eventOf (L .onByte x b .1)) (feed (stepOn L) (after c b x) bs))) (sym e)
+        (go (eventOf (L .onByte p b .1)) refl (laws .lays p b h .laid) (left next q bs))
       where
         q : L .Phase
         q = L .onByte p b .0
 
-        next : L .Phase → Lent L
-        next x = (L .stateAfter (c .0) (L .onByte x b .0) (L .onByte x b .1), over (L .front x b) (c .1))
+        next : Lent L
+        next = after c b p
 
         rest : Fed (Event (L .Message)) (Lent L)
-        rest = feed (stepOn L) (next p) bs
+        rest = feed (stepOn L) next bs
 
         -- the bytes before the last one used, one byte on
         shifted : (o : Outcome) → ((v : Event (L .Message)) → o ≡ some v → 1 ≤ rest .used)
@@ -119,15 +132,13 @@ module _ (L : Link) (withLast : List ℕ → ℕ → List ℕ) (unpacks : L .Mes
             rw k
 
         go : (o : Outcome) → eventOf (L .onByte p b .1) ≡ o → LaidBy (L .gathered p) b (L .front p b) q o
-            → (L .phaseOf (next p .0) (next p .1) ≡ q → laws .Fit q → next p .1 ≡ over (L .gathered q) store → Left q bs rest)
-            → Left p (b ∷ bs) (stop (next p) o rest)
+            → (L .phaseOf (next .0) (next .1) ≡ q → laws .Fit q → next .1 ≡ over (L .gathered q) store → Left q bs rest)
+            → Left p (b ∷ bs) (stop next o rest)
         go none z l ih =
-            let stored : next p .1 ≡ over (L .gathered q) store =
+            let stored : next .1 ≡ over (L .gathered q) store =
             ap (λ (x : List ℕ). over x (c .1)) (l .0) ∙ ap (over (L .gathered q)) s ∙ over-over (L .gathered q) (L .gathered p) store (l .1) in
-            let fit = laws .fit-next p b h in
-            let phase = laws .phase-after (c .0) q (L .onByte p b .1) (next p .1) fit (rw stored (take-append-seam (L .gathered q) _)) in
-            let k = ih phase fit stored in
-            let same = shifted (rest .event) (λ v w. used-some (stepOn L) (next p) bs v w) in
+            let k = ih (goes-on laws c p b h (l .0)) (laws .fit-next p b h) stored in
+            let same = shifted (rest .event) (λ v w. used-some (stepOn L) next bs v w) in
             record {
               lies = k .lies ∙ ap (λ (x : List ℕ). over (unpackedBy L withLast unpacks (rest .event)) (over x store)) same;
               short = subst (λ (x : List ℕ). length x ≤ L .size) same (k .short);
@@ -144,3 +155,47 @@ module _ (L : Link) (withLast : List ℕ → ℕ → List ℕ) (unpacks : L .Mes
       let x = left laws (c .1) room c p piece refl (laws .fit-known (c .0) (c .1) k room) (sym (laws .front-first (c .0) (c .1))) in
       places-over (unpackedBy L withLast unpacks (f .event)) (gatheredBy L withLast unpacks p piece (f .used) (f .event)) (c .1) (f .after .1)
       (omega (arith, x .shorter)) (omega (arith, x .short)) (x .lies))
+
+  -- what holds of each message that a byte may accept in a fit phase
+  module _ (laws : Storing) (Q : L .Message → Type 0) (each : (p : L .Phase) (b : ℕ) → laws .Fit p → Accepts Q (L .onByte p b .1)) where
+    abbrev HandsOut : Outcome → Type 0
+    HandsOut none = Unit
+    HandsOut (some (message m)) = Q m
+    HandsOut (some (refusal n)) = Unit
+
+    -- holds of each that a call hands out
+    hands-out : (c : Lent L) (p : L .Phase) (piece : List ℕ) → L .phaseOf (c .0) (c .1) ≡ p → laws .Fit p → HandsOut (feed (stepOn L) c piece .event)
+    hands-out c p [] e h = tt
+    hands-out c p (b ∷ bs) e h =
+        subst (λ (x : L .Phase). HandsOut (stop (after c b x) (eventOf (L .onByte x b .1)) (feed (stepOn L) (after c b x) bs) .event)) (sym e)
+        (go (L .onByte p b .1) (laws .lays p b h .laid) (each p b h) (hands-out next (L .onByte p b .0) bs))
+      where
+        next : Lent L
+        next = after c b p
+
+        rest : Fed (Event (L .Message)) (Lent L)
+        rest = feed (stepOn L) next bs
+
+        go : (o : Option (Segment (L .Message))) → LaidBy (L .gathered p) b (L .front p b) (L .onByte p b .0) (eventOf o) → Accepts Q o
+            → (L .phaseOf (next .0) (next .1) ≡ L .onByte p b .0 → laws .Fit (L .onByte p b .0) → HandsOut (rest .event)) → HandsOut (stop next (eventOf o) rest .event)
+        go none l a ih = ih (goes-on laws c p b h (l .0)) (laws .fit-next p b h)
+        go (some (noise w)) l a ih = ih (goes-on laws c p b h (l .0)) (laws .fit-next p b h)
+        go (some (refusedFrame n w)) l a ih = tt
+        go (some (acceptedFrame m)) l a ih = a
+
+  pub data-within : (laws : Storing) (count : L .Numbers → ℕ) (most : ℕ)
+      → ((p : L .Phase) (b : ℕ) → laws .Fit p → Accepts (λ m. count (L .numbersOf m) ≤ most) (L .onByte p b .1)) → DataWithin L count most
+  data-within laws count most each c piece v =
+      by-two (λ (f : Fed (Event (L .Message)) (Lent L)). told L (f .event) ≡ accepted v → count v ≤ most)
+      (L .known (c .0)) (leb (L .size) (length (c .1))) 12 1 (feed (stepOn L) c piece) (λ n. refuses L n c) refl refl
+      (λ _. from-told (some (refusal 12)) tt) (λ _ _. from-told (some (refusal 1)) tt)
+      (λ k r. from-told (feed (stepOn L) c piece .event)
+      (hands-out laws Q each c (L .phaseOf (c .0) (c .1)) piece refl (laws .fit-known (c .0) (c .1) k (leb-true (L .size) (length (c .1)) r))))
+    where
+      Q : L .Message → Type 0
+      Q m = count (L .numbersOf m) ≤ most
+
+      from-told : (o : Outcome) → HandsOut laws Q each o → told L o ≡ accepted v → count v ≤ most
+      from-told none h e = absurd (let z : _≡_ {A = ℕ} 0 1 = cc in omega arith)
+      from-told (some (message m)) h e = let z : L .numbersOf m ≡ v = cc in rw (sym z) h
+      from-told (some (refusal n)) h e = absurd (let z : _≡_ {A = ℕ} 0 1 = cc in omega arith)

@@ -22,6 +22,11 @@ abbrev pub countOf : Outcome ℕ → ℕ
 countOf (done n) = n
 countOf (refused n) = 0
 
+-- the number of the refusal, and 0 where there is none
+abbrev pub faultIn : {A : Type 0} → Outcome A → ℕ
+faultIn (done v) = 0
+faultIn (refused n) = n
+
 -- a run stored into lent memory from a place on, and how many bytes it has; 2, and the memory as it came, where it does not fit there
 unfoldable pub storedAt : List ℕ → List ℕ → ℕ → Outcome ℕ × List ℕ
 storedAt run memory at = cond (leb (at + length run) (length memory)) (done (length run), sets memory at run) (refused 2, memory)

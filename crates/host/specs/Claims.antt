@@ -1,12 +1,11 @@
 -- What is claimed of the calls, over any link, and the refusals of each read. proofs/Theorems.antt proves it for each link.
 use Prim.Native.Nat.{ℕ, _≤_}
 use mathlib.Core.Path.{_≡_}
-use mathlib.Core.Logic.{_↔_}
 use mathlib.Core.Bool.{true}
 use mathlib.Core.List.{List, [], _∷_}
 use lib.ListN.{length}
 use Rattle.runs.specs.Runs.{Bytes}
-use Rattle.framing.specs.Answer.{done, refused}
+use Rattle.framing.specs.Answer.{done, refused, faultIn}
 use Rattle.framing.specs.Link.{Link}
 use Rattle.framing.specs.Whole.{readOn, OnlyFrames, FramesRead}
 use Rattle.framing.specs.Refusals.{ReadsGive, WritesGive}
@@ -35,12 +34,9 @@ module _ (L : Link) where
   abbrev pub RefusalsFit : Type 0
   RefusalsFit = (run store : List ℕ) (n : ℕ) → readOn L run store .0 ≡ refused n → (1 ≤ n) × (n ≤ 13)
 
-  -- bits 0 to 7 of an answer are 0 exactly when a message is told, and any other number exactly when the call is refused with it
+  -- bits 0 to 7 of an answer are the number that the call is refused with, and 0, which is no refusal, where a message is told
   abbrev pub RefusalTold : (L .Numbers → ℕ) → Type 0
-  RefusalTold code =
-      (run store : List ℕ)
-      → ((refusalOf (reads L code run store .0) ≡ 0) ↔ ((v : L .Numbers) × (readOn L run store .0 ≡ done v)))
-      × ((n : ℕ) → 1 ≤ n → (refusalOf (reads L code run store .0) ≡ n) ↔ (readOn L run store .0 ≡ refused n))
+  RefusalTold code = (run store : List ℕ) → refusalOf (reads L code run store .0) ≡ faultIn (readOn L run store .0)
 
   -- of a message that is told, an accessor tells a part
   abbrev pub PartTold : (L .Numbers → ℕ) → (ℕ → ℕ) → (L .Numbers → ℕ) → Type 0

@@ -5,12 +5,13 @@ use mathlib.Core.Bool.{Bool, true, false, cond}
 use mathlib.Core.List.{List, [], _∷_, _++_}
 use mathlib.Core.Option.{Option, none, some}
 use native.Mathlib.Omega.{arith}
-use lib.ListN.{length, take, drop, length-append}
+use lib.ListN.{length, take, drop, length-append, length-take}
 use lib.Dec.{eqb}
 use borrow.Author.Tests.{lt-ltb, le-ltb}
 use Rattle.runs.specs.Runs.{over}
 use Rattle.runs.proofs.Cases.{by-eqb, by-ltb}
 use Rattle.framing.specs.Segment.{Segment, noise}
+use Rattle.framing.proofs.Segments.{Accepts}
 use Rattle.framing.proofs.Places.{over-over, over-first, Laid, Storing}
 use Rattle.checksum.specs.Crc.{crc16Of}
 use Rattle.mdu.specs.Frame.{Message}
@@ -89,3 +90,19 @@ storing =
       phase-after = phase-after;
       lays = lays;
     }
+
+abbrev Few : Phase × Option (Segment Message) → Type 0
+Few r = Accepts (λ (m : Message). length (m .body) ≤ 1025) (r .1)
+
+-- an accepted message has as much body as its header states, which is allowed
+pub few : (p : Phase) (b : ℕ) → storing .Fit p → Few (onByte p b)
+unfolding storing
+few hunting b h = by-eqb Few b 0xE3 (λ _. tt) (λ _. tt)
+few (inHeader g) b h =
+    by-eqb Few (length g) 5 (λ _. by-eqb Few (headerFault (g ++ (b ∷ []))) 0 (λ _. tt) (λ _. tt)) (λ _. tt)
+few (inBody k g) b h =
+    let more : List ℕ = g ++ (b ∷ []) in
+    by-eqb Few (length g) (7 + k)
+    (λ _. by-eqb (λ (s : Segment Message). Few (hunting, some s)) (sentCheck k more) (crc16Of (take k (drop 6 more)))
+    (λ _. simp length-take (omega (arith, h .most))) (λ _. tt))
+    (λ _. tt)

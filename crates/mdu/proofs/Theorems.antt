@@ -5,10 +5,10 @@ use mathlib.Core.List.{[], _∷_, _++_}
 use Rattle.checksum.specs.Claims.{Crc16Detects}
 use Rattle.checksum.proofs.CheckValue.{crc16-detects}
 use Rattle.mdu.specs.Contract.{link}
-use Rattle.mdu.specs.Claims.{streamNumbers, GivesExactly, ReceiveGives, StoresGathered}
+use Rattle.mdu.specs.Claims.{streamNumbers, GivesExactly, ReceiveGives, StoresGathered, DataWithin}
 use Rattle.mdu.proofs.Lawful.{lawful}
 use Rattle.mdu.proofs.Numbers.{given}
-use Rattle.mdu.proofs.Places.{storing}
+use Rattle.mdu.proofs.Places.{storing, few}
 
 -- a stream gives exactly these numbers
 pub gives-exactly : GivesExactly
@@ -21,6 +21,10 @@ receive-gives = any.receive-gives link lawful streamNumbers given
 -- what a call leaves in the store, place by place
 pub stores-gathered : StoresGathered
 stores-gathered = Places.stores-gathered link (λ g b. g ++ (b ∷ [])) (λ m. []) storing
+
+-- how much data a message has that a call tells
+pub data-within : DataWithin
+data-within = Places.data-within link (λ g b. g ++ (b ∷ [])) (λ m. []) storing (λ v. v .length) 1025 few
 
 -- two bodies of equal length that differ only within two neighbouring bytes have different check values
 pub check-value : Crc16Detects

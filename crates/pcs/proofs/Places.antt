@@ -10,6 +10,7 @@ use Rattle.runs.proofs.Cases.{by-eqb, by-ltb}
 use Rattle.framing.specs.Segment.{Segment}
 use Rattle.framing.specs.declared.State.{State}
 use Rattle.framing.proofs.Byte.{by-end}
+use Rattle.framing.proofs.Segments.{Accepts, accepts-map}
 use Rattle.framing.proofs.States.{known-count}
 use Rattle.framing.proofs.Places.{over-first, Laid, Storing}
 use Rattle.pcs.specs.Frame.{Message}
@@ -56,3 +57,8 @@ storing =
       phase-after = λ s q o store _. phase-of q 0 store;
       lays = lays;
     }
+
+-- an accepted message has no more data than may be sent
+pub few : (p : Phase) (b : ℕ) → storing .Fit p → Accepts (λ (m : Message). length (m .payload) ≤ 1024) (onByte p b .1)
+unfolding storing
+few p b h = accepts-map _ _ (onByte p b .1) (λ m t. sendable m (t .may) .most) (takes p b h .accepts)
