@@ -138,15 +138,14 @@ pub fn write(id: u8, kind: u8, repeat: u8, address: u8, data: &[u8], out: &mut [
     ensures { λ r. ⌜ (outcomeOf r, now (out .exit))
         ≡ writes ok frame (withFields id kind repeat address (now («data» .entry))) (now (out .entry)) ⌝ }
 {
-    if is_sendable(kind, repeat, data.len()) {
-        let header = [id, kind, repeat, address];
-        let check = checksum::crc32_joined(&header, data);
-        let mut trailer: [u8; 4] = [0; 4];
-        runs::put_number(&mut trailer, 0, 4, check);
-        send(&header, data, &trailer, out)
-    } else {
-        Answer::Refused(refusal::UNSENDABLE)
+    if !is_sendable(kind, repeat, data.len()) {
+        return Answer::Refused(refusal::UNSENDABLE);
     }
+    let header = [id, kind, repeat, address];
+    let check = checksum::crc32_joined(&header, data);
+    let mut trailer: [u8; 4] = [0; 4];
+    runs::put_number(&mut trailer, 0, 4, check);
+    send(&header, data, &trailer, out)
 }
 
 // Hunting: an FD opens a frame, any other byte is noise.

@@ -94,6 +94,17 @@ module _ {C E : Type 0} (step : C → ℕ → C × Option E) where
       go (some e) = omega arith
 
   -- what a call gives is the front of what the uncut stream gives: its event, and the events behind the bytes that it used
+  -- after an event what follows is not looked at
+  pub feed-stops : (c : C) (xs ys : List ℕ) (v : E) → feed step c xs .event ≡ some v → feed step c (xs ++ ys) ≡ feed step c xs
+  feed-stops c [] ys v h = absurd (Option·none-ne-some v h)
+  feed-stops c (b ∷ xs) ys v h = go (step c b .1) (feed-stops (step c b .0) xs ys v) h
+    where
+      go : (o : Option E) → (feed step (step c b .0) xs .event ≡ some v → feed step (step c b .0) (xs ++ ys) ≡ feed step (step c b .0) xs)
+          → stop (step c b .0) o (feed step (step c b .0) xs) .event ≡ some v
+          → stop (step c b .0) o (feed step (step c b .0) (xs ++ ys)) ≡ stop (step c b .0) o (feed step (step c b .0) xs)
+      go none ih h = ap (later 1) (ih h)
+      go (some e) ih h = refl
+
   pub events-feed : (c : C) (bs : List ℕ)
       → events step c bs ≡ emit (feed step c bs .event) (events step (feed step c bs .after) (drop (feed step c bs .used) bs))
   events-feed c [] = refl

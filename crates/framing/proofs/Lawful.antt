@@ -2,7 +2,7 @@
 use Prim.Native.Nat.{ℕ, suc, _^_, _≤_, _<_}
 use mathlib.Core.Path.{_≡_, refl, ap, sym, _∙_, subst}
 use mathlib.Core.Bool.{true}
-use mathlib.Core.List.{List, [], _∷_, _++_, append-assoc}
+use mathlib.Core.List.{List, [], _∷_, _++_, append-nil, append-assoc}
 use mathlib.Core.Option.{Option, none, some, Option·none-ne-some}
 use native.Mathlib.Nat.{zero-add}
 use native.Mathlib.Omega.{arith}
@@ -10,7 +10,7 @@ use lib.ListN.{length, take, length-append, length-drop}
 use lib.Seq.{sets}
 use borrow.Author.Tests.{le-leb}
 use Rattle.runs.specs.Runs.{Bytes, over}
-use Rattle.runs.proofs.Bytes.{bytes-append, bytes-left, bytes-right, bytes-more}
+use Rattle.runs.proofs.Bytes.{bytes-left, bytes-right, bytes-more}
 use Rattle.runs.proofs.Run.{part-sets, sets-over}
 use Rattle.framing.specs.Answer.{Outcome, done}
 use Rattle.framing.specs.Receiver.{Fed, stop, feed, events, last, drive, join}
@@ -19,6 +19,7 @@ use Rattle.framing.specs.Writer.{writes}
 use Rattle.framing.specs.Link.{Link, Lent, stepOn, callOn, told, heardIn, called}
 use Rattle.framing.specs.Claims.{segments, openAt, WritesFrame, ReadsBack, Canonical, CutAnywhere, Accounted}
 use Rattle.framing.proofs.Stored.{stored-done, writes-stored}
+use Rattle.framing.proofs.Feed.{feed-stops}
 use Rattle.framing.proofs.Cutting.{Follows, cutting, feed-from, feed-follows}
 use Rattle.framing.proofs.Segments.{Config, step, wireOpt, Accepts, accepts-map, AllAccept, accept-at, wires-append, partition, all-accepted, phase-last, heard-events, noise-last}
 use Rattle.framing.proofs.Byte.{Reached, Taken, Takes}
@@ -296,8 +297,20 @@ module _ (L : Link) (laws : Lawful L) where
         «open» = r .1 .«open» ∙ ap (λ (p : L .Phase). length (L .held p)) (phase-last (L .onByte) (at (L .hunting) 0) (join pieces));
       }
 
+  -- a call that hands out an event does not look at what follows
+  called-stops : (c : Lent L) (xs ys : List ℕ) (v : Event (L .Message)) → L .known (c .0) ≡ true → L .size ≤ length (c .1)
+      → called L c xs .event ≡ some v → called L c (xs ++ ys) ≡ called L c xs
+  called-stops c xs ys v k r =
+      rw (k, le-leb (L .size) (length (c .1)) r)
+      (λ h. let w = untold (feed (stepOn L) c xs .event) h in
+      ap (λ (f : Fed (Event (L .Message)) (Lent L)). record { event = view (f .after) (f .event); used = f .used; after = f .after }) (feed-stops (stepOn L) c xs ys (w .0) (w .1)))
+    where
+      untold : (o : Option (Event (L .Message))) → heardIn L (feed (stepOn L) c xs .after .1) (told L o) ≡ some v → (e : Event (L .Message)) × (o ≡ some e)
+      untold none h = absurd (Option·none-ne-some v h)
+      untold (some e) h = (e, refl)
+
   pub reads-back : ReadsBack L
-  reads-back m memory rest s store t o h y k p room =
+  reads-back m memory rest s store t o h k p room =
       record {
         answers = ap (λ (w : Outcome ℕ × List ℕ). w .0) (written-frame L m memory o h);
         hears = ap (λ (f : Heard). f .event) same ∙ f .event ∙ ap (λ (f : Ruled). f .event) e;
@@ -314,11 +327,6 @@ module _ (L : Link) (laws : Lawful L) where
       Ruled : Type 0
       Ruled = Fed (Event (L .Message)) (Config (L .Phase))
 
-      same : called L (s, store) (take (length (L .frame m)) (writes (L .ok) (L .frame) m memory .1) ++ rest) ≡ called L (s, store) (L .frame m ++ rest)
-      same =
-          ap (λ (w : List ℕ). called L (s, store) (w ++ rest))
-          (ap (λ (w : Outcome ℕ × List ℕ). take (length (L .frame m)) (w .1)) (written-frame L m memory o h) ∙ part-sets memory 0 (L .frame m) (omega arith))
-
       stands : Stands (s, store) (at (L .hunting) (L .noise s))
       stands =
           record {
@@ -331,11 +339,16 @@ module _ (L : Link) (laws : Lawful L) where
             good = laws .reached .good-first;
           }
 
-      f : Follows Counts (called L (s, store) (L .frame m ++ rest)) (feed (step (L .onByte)) (at (L .hunting) (L .noise s)) (L .frame m ++ rest))
-      f =
-          follows-from (s, store) (at (L .hunting) (L .noise s)) (L .frame m ++ rest) (omega (arith, laws .frame-filled m, length-append (L .frame m) rest))
-          (bytes-append (L .frame m) rest (laws .frame-bytes m t o) y) stands
+      f : Follows Counts (called L (s, store) (L .frame m)) (feed (step (L .onByte)) (at (L .hunting) (L .noise s)) (L .frame m))
+      f = follows-from (s, store) (at (L .hunting) (L .noise s)) (L .frame m) (laws .frame-filled m) (laws .frame-bytes m t o) stands
 
-      e : feed (step (L .onByte)) (at (L .hunting) (L .noise s)) (L .frame m ++ rest)
+      e : feed (step (L .onByte)) (at (L .hunting) (L .noise s)) (L .frame m)
           ≡ record { event = some (message m); used = length (L .frame m); after = at (L .hunting) (L .noise s) }
-      e = laws .reads-frame m rest (L .noise s) t o
+      e = ap (feed (step (L .onByte)) (at (L .hunting) (L .noise s))) (sym (append-nil (L .frame m))) ∙ laws .reads-frame m [] (L .noise s) t o
+
+      -- the call is that on the frame alone
+      same : called L (s, store) (take (length (L .frame m)) (writes (L .ok) (L .frame) m memory .1) ++ rest) ≡ called L (s, store) (L .frame m)
+      same =
+          ap (λ (w : List ℕ). called L (s, store) (w ++ rest))
+          (ap (λ (w : Outcome ℕ × List ℕ). take (length (L .frame m)) (w .1)) (written-frame L m memory o h) ∙ part-sets memory 0 (L .frame m) (omega arith))
+          ∙ called-stops (s, store) (L .frame m) rest (message m) k room (f .event ∙ ap (λ (f : Ruled). f .event) e)

@@ -50,8 +50,8 @@ module _ (L : Link) where
   abbrev pub ReadsBack : Type 0
   ReadsBack =
       (m : L .Message) (memory rest : List ℕ) (s : L .State) (store : List ℕ)
-      → L .Typed m → L .ok m ≡ true → length (L .frame m) ≤ length memory → Bytes rest
-      → L .known s ≡ true → L .phaseOf s store ≡ L .hunting → L .size ≤ length store → ReadBack m memory rest s store
+      → L .Typed m → L .ok m ≡ true → length (L .frame m) ≤ length memory → L .known s ≡ true → L .phaseOf s store ≡ L .hunting
+      → L .size ≤ length store → ReadBack m memory rest s store
 
   -- calls read back: of the bytes that any calls of the writer leave, refused ones and none at all included, cut anywhere, a fresh receiver, its
   -- store handed back untouched, hands out exactly the kept messages, in order; nothing is noise, and it hunts with nothing open

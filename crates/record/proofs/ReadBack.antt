@@ -16,7 +16,7 @@ use Rattle.runs.proofs.Cases.{and-both}
 use Rattle.runs.proofs.Number.{number-bytesOf, length-bytesOf}
 use Rattle.runs.proofs.Run.{part-sets}
 use Rattle.framing.specs.Answer.{done}
-use Rattle.framing.proofs.Stored.{stored-done}
+use Rattle.framing.proofs.Stored.{stored-done, writes-stored}
 use Rattle.record.specs.Numbers.{numbers, every}
 use Rattle.record.specs.Form.{sizeOf, signedOf, kindOf, addressOf, countOf, allowed, wellFormed}
 use Rattle.record.specs.Fares.{Signedness, unsignedFares, signedFares, same, faresOf, fareAt, writable, elements, recordBytes}
@@ -167,7 +167,8 @@ module _ {A : Type 0} (F : Signedness A) where
   write-leaves : (kind address : ℕ) (l : List A) (memory : List ℕ) → Writes F kind address l memory
       → writing F kind address l memory ≡ (done (length (recordBytes F kind address l)), sets memory 0 (recordBytes F kind address l))
   unfolding writing
-  write-leaves kind address l memory h = rw (h .0) (stored-done (recordBytes F kind address l) memory 0 (omega (arith, h .1)))
+  write-leaves kind address l memory h =
+      writes-stored (writable F kind address) (recordBytes F kind address) l memory (h .0) ∙ stored-done (recordBytes F kind address l) memory 0 (omega (arith, h .1))
 
   written-is : (kind address : ℕ) (l : List A) (memory : List ℕ) → Writes F kind address l memory → written F kind address l memory ≡ recordBytes F kind address l
   written-is kind address l memory h =

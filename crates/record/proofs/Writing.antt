@@ -9,8 +9,8 @@ use lib.Seq.{sets}
 use Rattle.runs.specs.Number.{bytesOf}
 use Rattle.runs.proofs.Number.{length-bytesOf}
 use Rattle.runs.proofs.Run.{sets-append}
-use Rattle.framing.specs.Answer.{done, refused}
-use Rattle.framing.proofs.Stored.{stored-done, stored-refused}
+use Rattle.framing.specs.Answer.{done, refused, storedAt}
+use Rattle.framing.proofs.Stored.{stored-done, stored-refused, writes-stored}
 use Rattle.record.specs.declared.form.Form.{Form}
 use Rattle.record.specs.Numbers.{every}
 use Rattle.record.specs.Form.{formOf, sizeOf, allowed}
@@ -66,20 +66,22 @@ module _ {A : Type 0} (F : Signedness A) (kind address : ℕ) (l : List A) where
     pub send-few : length l < 65536
     send-few = omega (arith, allowed-facts _ _ _ (s .allows), limit-le kind)
 
-    pub write-short : (out : List ℕ) → length out < 5 + g .size * length l → (refused 2, out) ≡ writing F kind address l out
+    stores : (out : List ℕ) → writing F kind address l out ≡ storedAt (recordBytes F kind address l) out 0
     unfolding writing
-    write-short out m = rw is-writable (sym (stored-refused (recordBytes F kind address l) out 0 (omega (arith, whole-is))))
+    stores out = writes-stored (writable F kind address) (recordBytes F kind address) l out is-writable
+
+    pub write-short : (out : List ℕ) → length out < 5 + g .size * length l → (refused 2, out) ≡ writing F kind address l out
+    write-short out m = sym (stores out ∙ stored-refused (recordBytes F kind address l) out 0 (omega (arith, whole-is)))
 
     pub write-done : (out after : List ℕ) → 5 + g .size * length l ≤ length out
         → after ≡ sets (sets out 0 ((kind ∷ bytesOf 2 address) ++ bytesOf 2 (length l))) 5 (elements F (g .size) l)
         → (done (5 + g .size * length l), after) ≡ writing F kind address l out
-    unfolding writing
     write-done out after m e =
         let header = (kind ∷ bytesOf 2 address) ++ bytesOf 2 (length l) in
         let five : 0 + length header ≡ 5 = simp (length-append, length-bytesOf) in
         let laid : after ≡ sets out 0 (recordBytes F kind address l) =
         (rw size-is at e) ∙ sym (rw five at (sets-append header (elements F (sizeOf kind) l) out 0)) in
-        rw (is-writable, whole-is, laid) (sym (stored-done (recordBytes F kind address l) out 0 (omega (arith, whole-is))))
+        rw (whole-is, laid) (sym (stores out ∙ stored-done (recordBytes F kind address l) out 0 (omega (arith, whole-is))))
 
 -- the size that a private function asks for
 pub send-size : (kind address count : ℕ) {g : Form} → g ≡ formOf kind → allowed kind address count ≡ true → IsSize (g .size)

@@ -6,7 +6,8 @@ use lib.ListN.{length}
 use lib.Dec.{leb, ltb, eqb}
 use lib.IntN.{ℤ}
 use Rattle.runs.specs.Runs.{over}
-use Rattle.framing.specs.Answer.{Outcome, done, refused, storedAt}
+use Rattle.framing.specs.Answer.{Outcome, done, refused}
+use Rattle.framing.specs.Writer.{writes}
 use Rattle.record.specs.Form.{signedOf, kindOf, countOf, wellFormed}
 use Rattle.record.specs.Fares.{Signedness, unsignedFares, signedFares, same, faresOf, fareAt, writable, recordBytes}
 use Rattle.record.specs.declared.Element.{Element}
@@ -33,10 +34,9 @@ module _ {A : Type 0} (F : Signedness A) where
       (cond (same (F .signed) (signedOf (kindOf r))) (cond (ltb i (countOf r)) (done (fareAt F r i)) (refused 18)) (refused 17))
       (refused 16)
 
-  -- writing: 3, 2; else the length, and the record at the start of the memory
+  -- writing: 3, 2, as a link's writer; else the length, and the record at the start of the memory
   unfoldable pub writing : ℕ → ℕ → List A → List ℕ → Outcome ℕ × List ℕ
-  writing kind address fares memory =
-      cond (writable F kind address fares) (storedAt (recordBytes F kind address fares) memory 0) (refused 3, memory)
+  writing kind address fares memory = writes (writable F kind address) (recordBytes F kind address) fares memory
 
 -- each case of the enums: the fare, or the number of the refusal
 abbrev pub unsignedOutcome : UnsignedElement → Outcome ℕ
