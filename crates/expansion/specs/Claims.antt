@@ -10,7 +10,6 @@ use Rattle.framing.specs.Receiver.{last, drive, join}
 use Rattle.framing.specs.Segment.{Segment, refusedFrame, refusal, wires}
 use Rattle.framing.specs.Link.{Lent, stepOn, callOn, called}
 use Rattle.framing.specs.Claims.{segments}
-use Rattle.framing.specs.Claims as Claims
 use Rattle.framing.specs.Refusals as Refusals
 use Rattle.framing.specs.Places as Places
 use Rattle.expansion.specs.Frame.{Message, ok, enclose, frame}
@@ -33,7 +32,7 @@ StoresGathered = Places.StoresGathered link (λ g b. g) (λ m. [])
 
 -- no call tells a message with more than 1,024 bytes of data
 abbrev pub DataWithin : Type 0
-DataWithin = Claims.DataWithin link (λ v. v .length) 1024
+DataWithin = Places.DataWithin link (λ v. v .length) 1024
 
 -- no frame has more than 2,066 bytes on the wire
 abbrev pub FrameBound : Type 0

@@ -14,8 +14,7 @@ use Rattle.runs.specs.Runs.{over}
 use Rattle.framing.specs.Receiver.{Fed, stop, feed}
 use Rattle.framing.specs.Segment.{Segment, noise, refusedFrame, acceptedFrame, Event, message, refusal, eventOf}
 use Rattle.framing.specs.Link.{Link, Lent, stepOn, refuses, told, accepted}
-use Rattle.framing.specs.Claims.{DataWithin}
-use Rattle.framing.specs.Places.{Places, gatheredBy, unpackedBy, StoresGathered}
+use Rattle.framing.specs.Places.{Places, gatheredBy, unpackedBy, StoresGathered, DataWithin}
 use Rattle.framing.proofs.Tests.{by-two}
 use Rattle.framing.proofs.Feed.{used-some}
 use Rattle.framing.proofs.Segments.{Accepts}

@@ -23,9 +23,9 @@ countOf (done n) = n
 countOf (refused n) = 0
 
 -- the number of the refusal, and 0 where there is none
-abbrev pub faultIn : {A : Type 0} → Outcome A → ℕ
-faultIn (done v) = 0
-faultIn (refused n) = n
+abbrev pub faultOf : {A : Type 0} → Outcome A → ℕ
+faultOf (done v) = 0
+faultOf (refused n) = n
 
 -- a run stored into lent memory from a place on, and how many bytes it has; 2, and the memory as it came, where it does not fit there
 unfoldable pub storedAt : List ℕ → List ℕ → ℕ → Outcome ℕ × List ℕ

@@ -11,7 +11,7 @@ use Rattle.framing.specs.Answer.{done}
 use Rattle.framing.specs.Receiver.{Fed, events, last, drive, join}
 use Rattle.framing.specs.Segment.{Segment, acceptedFrame, Event, message, heard, noiseOf, wires}
 use Rattle.framing.specs.Writer.{Call, frames, kept, wire}
-use Rattle.framing.specs.Link.{Link, Lent, accepted, writeOn, receives, called}
+use Rattle.framing.specs.Link.{Link, writeOn, called}
 
 -- every element of a list has a property
 abbrev pub AllOf : {A : Type 0} → (A → Type 0) → List A → Type 0
@@ -84,10 +84,6 @@ module _ (L : Link) where
 
   abbrev pub CutAnywhere : Type 0
   CutAnywhere = (pieces : List (List ℕ)) (store : List ℕ) → Bytes (join pieces) → L .size ≤ length store → CutAt pieces store
-
-  -- data within: whatever the state, the store and the piece, a message that a call tells has data of at most so many bytes
-  abbrev pub DataWithin : (L .Numbers → ℕ) → ℕ → Type 0
-  DataWithin count most = (c : Lent L) (piece : List ℕ) (v : L .Numbers) → receives L c piece .0 ≡ accepted v → count v ≤ most
 
   -- accounted: every byte of a stream belongs to a segment or to what is open, once and in order
   abbrev pub Accounted : Type 0

@@ -1,4 +1,4 @@
--- What a call of a receiver leaves in the store, place by place.
+-- What a call of a receiver leaves in the store, place by place, and how much data a message has that it tells.
 use Prim.Native.Nat.{ℕ, _-_, _≤_, _<_}
 use mathlib.Core.Path.{_≡_}
 use mathlib.Core.Bool.{true}
@@ -7,7 +7,7 @@ use mathlib.Core.Option.{Option, none, some}
 use lib.ListN.{length, getD, take}
 use Rattle.framing.specs.Receiver.{last}
 use Rattle.framing.specs.Segment.{Event, message, refusal}
-use Rattle.framing.specs.Link.{Link, Lent, callOn}
+use Rattle.framing.specs.Link.{Link, Lent, accepted, callOn, receives}
 
 -- a store where bytes g were gathered and data d then unpacked: d from place 0 on, behind it each gathered byte at its place, and at every other
 -- place what stood there before
@@ -36,3 +36,7 @@ module _ (L : Link) (withLast : List ℕ → ℕ → List ℕ) (unpacks : L .Mes
       (c : Lent L) (piece : List ℕ) → L .known (c .0) ≡ true → L .size ≤ length (c .1)
       → let f = callOn L c piece in
       Places (unpackedBy (f .event)) (gatheredBy (L .phaseOf (c .0) (c .1)) piece (f .used) (f .event)) (c .1) (f .after .1)
+
+-- whatever the state, the store and the piece, a message that a call tells has data of at most so many bytes, by the count among its numbers
+abbrev pub DataWithin : (L : Link) → (L .Numbers → ℕ) → ℕ → Type 0
+DataWithin L count most = (c : Lent L) (piece : List ℕ) (v : L .Numbers) → receives L c piece .0 ≡ accepted v → count v ≤ most

@@ -7,7 +7,7 @@ use native.Mathlib.Omega.{arith}
 use lib.Dec.{leb}
 use borrow.Author.Tests.{leb-true}
 use Rattle.runs.proofs.Cases.{and-both}
-use Rattle.framing.specs.Answer.{Outcome, done, refused, faultIn}
+use Rattle.framing.specs.Answer.{Outcome, done, refused, faultOf}
 use Rattle.framing.specs.Link.{Link}
 use Rattle.framing.specs.Whole.{readOn}
 use Rattle.framing.proofs.Lawful.{Lawful}
@@ -24,6 +24,6 @@ module _ (L : Link) (laws : Lawful L) (numbers : List ℕ) (given : Given L numb
   pub refusal-told : (code : L .Numbers → ℕ) → ((v : L .Numbers) → refusalOf (code v) ≡ 0) → RefusalTold L code
   refusal-told code zero-bits run store = go (readOn L run store .0) (refusals-fit run store)
     where
-      go : (o : Outcome (L .Numbers)) → ((n : ℕ) → o ≡ refused n → (1 ≤ n) × (n ≤ 13)) → refusalOf (encode code o) ≡ faultIn o
+      go : (o : Outcome (L .Numbers)) → ((n : ℕ) → o ≡ refused n → (1 ≤ n) × (n ≤ 13)) → refusalOf (encode code o) ≡ faultOf o
       go (done v) f = zero-bits v
       go (refused n) f = let k = f n refl in omega arith

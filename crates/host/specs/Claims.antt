@@ -5,7 +5,7 @@ use mathlib.Core.Bool.{true}
 use mathlib.Core.List.{List, [], _∷_}
 use lib.ListN.{length}
 use Rattle.runs.specs.Runs.{Bytes}
-use Rattle.framing.specs.Answer.{done, refused, faultIn}
+use Rattle.framing.specs.Answer.{done, refused, faultOf}
 use Rattle.framing.specs.Link.{Link}
 use Rattle.framing.specs.Whole.{readOn, OnlyFrames, FramesRead}
 use Rattle.framing.specs.Refusals.{ReadsGive, WritesGive}
@@ -36,7 +36,7 @@ module _ (L : Link) where
 
   -- bits 0 to 7 of an answer are the number that the call is refused with, and 0, which is no refusal, where a message is told
   abbrev pub RefusalTold : (L .Numbers → ℕ) → Type 0
-  RefusalTold code = (run store : List ℕ) → refusalOf (reads L code run store .0) ≡ faultIn (readOn L run store .0)
+  RefusalTold code = (run store : List ℕ) → refusalOf (reads L code run store .0) ≡ faultOf (readOn L run store .0)
 
   -- of a message that is told, an accessor tells a part
   abbrev pub PartTold : (L .Numbers → ℕ) → (ℕ → ℕ) → (L .Numbers → ℕ) → Type 0

@@ -1,7 +1,6 @@
 -- What is claimed of the MDU link besides the claims on every link.
 use Prim.Native.Nat.{ℕ}
 use mathlib.Core.List.{List, [], _∷_, _++_}
-use Rattle.framing.specs.Claims as Claims
 use Rattle.framing.specs.Refusals as Refusals
 use Rattle.framing.specs.Places as Places
 use Rattle.mdu.specs.Contract.{link}
@@ -23,4 +22,4 @@ StoresGathered = Places.StoresGathered link (λ g b. g ++ (b ∷ [])) (λ m. [])
 
 -- no call tells a message with more than 1,025 bytes of body
 abbrev pub DataWithin : Type 0
-DataWithin = Claims.DataWithin link (λ v. v .length) 1025
+DataWithin = Places.DataWithin link (λ v. v .length) 1025

@@ -9,7 +9,7 @@ fn show_asked(asked: Asked) {
         Asked::Done => print::word(b"done"),
         Asked::GaveUp => print::word(b"given-up"),
         Asked::Nothing => print::word(b"nothing"),
-        Asked::Refused(number) => print::named(b"refused", number as u64),
+        Asked::Refused(fault) => print::named(b"refused", fault as u64),
     }
 }
 

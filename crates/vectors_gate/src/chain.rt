@@ -13,7 +13,7 @@ fn show_hop(hop: Hop, is_down: bool) {
                 print::word(b"here 0");
             }
         }
-        Hop::Refused(number) => print::named(b"refused", number as u64),
+        Hop::Refused(fault) => print::named(b"refused", fault as u64),
     }
 }
 

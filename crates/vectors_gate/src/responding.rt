@@ -58,12 +58,12 @@ fn respond_accepted(line: &[u8], responder: gate::Responder) -> gate::Responder 
     responded(gate::respond(responder, words::is(line, 1, b"head"), event, b""))
 }
 
-// What the receiver told is a refusal, or nothing where the number is 0.
-fn refused(number: u8) -> Event {
-    if number == 0 {
+// What the receiver told is a refusal, or nothing where its number is 0.
+fn refused(fault: u8) -> Event {
+    if fault == 0 {
         return Event::Nothing;
     }
-    Event::Refused(number)
+    Event::Refused(fault)
 }
 
 fn respond_refused(line: &[u8], responder: gate::Responder) -> gate::Responder {

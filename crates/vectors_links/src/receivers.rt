@@ -33,7 +33,7 @@ fn show_pcs_message(message: pcs::Message, store: &[u8]) {
 fn show_pcs(event: pcs::Event, store: &[u8]) {
     match event {
         pcs::Event::Nothing => print::word(b"nothing"),
-        pcs::Event::Refused(number) => print::named(b"refused", number as u64),
+        pcs::Event::Refused(fault) => print::named(b"refused", fault as u64),
         pcs::Event::Accepted(message) => show_pcs_message(message, store),
     }
 }
@@ -58,7 +58,7 @@ fn show_mdu_message(message: mdu::Message, store: &[u8]) {
 fn show_mdu(event: mdu::Event, store: &[u8]) {
     match event {
         mdu::Event::Nothing => print::word(b"nothing"),
-        mdu::Event::Refused(number) => print::named(b"refused", number as u64),
+        mdu::Event::Refused(fault) => print::named(b"refused", fault as u64),
         mdu::Event::Accepted(message) => show_mdu_message(message, store),
     }
 }
@@ -84,7 +84,7 @@ fn show_dle_message(message: dle::Message, store: &[u8]) {
 fn show_dle(event: dle::Event, store: &[u8]) {
     match event {
         dle::Event::Nothing => print::word(b"nothing"),
-        dle::Event::Refused(number) => print::named(b"refused", number as u64),
+        dle::Event::Refused(fault) => print::named(b"refused", fault as u64),
         dle::Event::Accepted(message) => show_dle_message(message, store),
     }
 }
@@ -112,7 +112,7 @@ fn show_expansion_message(message: expansion::Message, store: &[u8]) {
 fn show_expansion(event: expansion::Event, store: &[u8]) {
     match event {
         expansion::Event::Nothing => print::word(b"nothing"),
-        expansion::Event::Refused(number) => print::named(b"refused", number as u64),
+        expansion::Event::Refused(fault) => print::named(b"refused", fault as u64),
         expansion::Event::Accepted(message) => show_expansion_message(message, store),
     }
 }

@@ -8,7 +8,7 @@ use vector_text::words;
 fn show_count(answer: Answer) {
     match answer {
         Answer::Done(count) => print::named(b"count", count as u64),
-        Answer::Refused(number) => print::named(b"refused", number as u64),
+        Answer::Refused(fault) => print::named(b"refused", fault as u64),
     }
     print::word(b"places");
 }

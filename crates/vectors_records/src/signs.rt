@@ -53,7 +53,7 @@ pub(crate) fn signed_at(line: &[u8], k: usize) -> i32 {
 pub(crate) fn show_unsigned(element: UnsignedElement) {
     match element {
         UnsignedElement::Fare(fare) => print::named(b"value", fare as u64),
-        UnsignedElement::Refused(number) => print::named(b"refused", number as u64),
+        UnsignedElement::Refused(fault) => print::named(b"refused", fault as u64),
     }
 }
 
@@ -63,6 +63,6 @@ pub(crate) fn show_signed(element: SignedElement) {
             print::word(b"value");
             print_signed(fare);
         }
-        SignedElement::Refused(number) => print::named(b"refused", number as u64),
+        SignedElement::Refused(fault) => print::named(b"refused", fault as u64),
     }
 }

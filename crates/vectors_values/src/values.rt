@@ -30,7 +30,7 @@ fn show_done(answer: Answer, memory: &[u8]) {
             let n = memory::within(length, memory);
             print::bytes(&memory[..n]);
         }
-        Answer::Refused(number) => print::named(b"refused", number as u64),
+        Answer::Refused(fault) => print::named(b"refused", fault as u64),
     }
 }
 
