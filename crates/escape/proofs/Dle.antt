@@ -1,4 +1,4 @@
--- The DLE code is lawful, and leaves no 10 unpaired.
+-- The DLE code is lawful, reads back, and leaves no 10 unpaired.
 use Prim.Native.Nat.{ℕ, _<_}
 use mathlib.Core.Path.{_≡_, refl, _∙_}
 use mathlib.Core.List.{List, [], _∷_, _++_, append-assoc}
@@ -12,9 +12,9 @@ use Rattle.runs.proofs.Each.{each-bytes}
 use Rattle.escape.specs.Code.{hide}
 use Rattle.runs.specs.Runs.{each}
 use Rattle.escape.specs.Dle.{dle}
-use Rattle.escape.specs.Claims.{Coded, alone, pair, Lawful, Paired}
+use Rattle.escape.specs.Claims.{HiddenReadsBack, ReadIsHidden, Paired}
 use Rattle.escape.proofs.OneEscape.{PlainOf, AfterOf, lawful-by}
-use Rattle.escape.proofs.Lawful.{unhidden-bytes}
+use Rattle.escape.proofs.Lawful.{Coded, alone, pair, Lawful, unhide-hide, hide-unhide, unhidden-bytes}
 
 pub dle-lawful : Lawful dle
 dle-lawful = lawful-by dle 0x10
@@ -22,6 +22,12 @@ dle-lawful = lawful-by dle 0x10
     (λ w. by-eqb (PlainOf dle 0x10 w) w 0x10 (λ e. e) (λ n. rw (ne-eqb w 0x10 n)))
     (λ x. by-eqb (AfterOf dle 0x10 x) x 0x02 (λ _. tt) (λ _. by-eqb (AfterOf dle 0x10 x) x 0x03 (λ _. tt)
     (λ _. by-eqb (AfterOf dle 0x10 x) x 0x10 (λ e. rw e) (λ _. tt))))
+
+pub dle-reads-back : HiddenReadsBack dle
+dle-reads-back = unhide-hide dle dle-lawful
+
+pub dle-read-hidden : ReadIsHidden dle
+dle-read-hidden = hide-unhide dle dle-lawful
 
 -- hidden bytes are bytes
 pub dle-bytes : (bytes : List ℕ) → Bytes bytes → Bytes (hide dle bytes)

@@ -1,4 +1,4 @@
--- The expansion code is lawful, leaves no mark among hidden bytes, and bounds a frame.
+-- The expansion code is lawful, reads back, leaves no mark among hidden bytes, and bounds a frame.
 use Prim.Native.Nat.{ℕ, zero, suc, _≤_, _<_}
 use mathlib.Core.Path.{_≡_, refl}
 use mathlib.Core.List.{List, [], _∷_}
@@ -12,10 +12,10 @@ use Rattle.runs.proofs.Bytes.{bytes-one, bytes-two}
 use Rattle.runs.proofs.Cases.{by-eqb}
 use Rattle.escape.specs.Code.{hide}
 use Rattle.escape.specs.Expansion.{hideByte, expansion}
-use Rattle.escape.specs.Claims.{Coded, alone, pair, Lawful, NoMarks, FrameBound}
+use Rattle.escape.specs.Claims.{HiddenReadsBack, ReadIsHidden, NoMarks, FrameBound}
 use Rattle.runs.proofs.Each.{each-all, each-bytes}
 use Rattle.escape.proofs.OneEscape.{PlainOf, AfterOf, lawful-by}
-use Rattle.escape.proofs.Lawful.{hide-short}
+use Rattle.escape.proofs.Lawful.{Coded, alone, pair, Lawful, unhide-hide, hide-unhide, hide-short}
 
 -- cases of a byte: FD, FE, FF, or another
 pub by-byte : {A : Type 0} (P : A → Type 0) (b : ℕ) {x y z o : A} → (b ≡ 0xFD → P x) → (b ≡ 0xFE → P y) → (b ≡ 0xFF → P z)
@@ -31,6 +31,12 @@ expansion-lawful = lawful-by expansion 0xFF
     (λ n k l. rw (ne-eqb w 0xFD n, ne-eqb w 0xFE k, ne-eqb w 0xFF l)))
     (λ x. by-eqb (AfterOf expansion 0xFF x) x 0xFD (λ _. tt) (λ _. by-eqb (AfterOf expansion 0xFF x) x 0x02 (λ e. rw e)
     (λ _. by-eqb (AfterOf expansion 0xFF x) x 0x01 (λ e. rw e) (λ _. by-eqb (AfterOf expansion 0xFF x) x 0x00 (λ e. rw e) (λ _. tt)))))
+
+pub expansion-reads-back : HiddenReadsBack expansion
+expansion-reads-back = unhide-hide expansion expansion-lawful
+
+pub expansion-read-hidden : ReadIsHidden expansion
+expansion-read-hidden = hide-unhide expansion expansion-lawful
 
 -- hidden bytes are bytes
 pub expansion-bytes : (bytes : List ℕ) → Bytes bytes → Bytes (hide expansion bytes)

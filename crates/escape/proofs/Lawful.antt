@@ -10,9 +10,21 @@ use lib.ListN.{length, take, length-append}
 use lib.Seq.{take-append-add}
 use Rattle.escape.specs.Code.{Meaning, byte, waits, start, end, wrong, Code, meaning, hide, readFirst, readSecond, unhideUpTo}
 use Rattle.runs.specs.Runs.{Bytes, each}
-use Rattle.escape.specs.Claims.{Coded, alone, pair, Lawful}
+use Rattle.escape.specs.Claims.{HiddenReadsBack, ReadIsHidden}
 use Rattle.runs.proofs.Bytes.{bytes-left, bytes-right}
 use Rattle.runs.proofs.Each.{each-snoc, each-short}
+
+-- the run that hides a byte is the byte alone, where it means itself, or a byte that waits and one that completes the hidden byte
+pub data Coded (code : Code) (b : ℕ) : List ℕ → Type 0 where
+  alone : code .plain b ≡ byte b → Coded code b (b ∷ [])
+  pair : (e x : ℕ) → code .plain e ≡ waits → code .after x ≡ byte b → Coded code b (e ∷ x ∷ [])
+
+-- hiding and reading fit together: each run reads back as its byte, and nothing else reads as that byte
+pub record Lawful (code : Code) : Type 0 where
+  pub coded : (b : ℕ) → Coded code b (code .hideByte b)
+  pub plain-byte : (w b : ℕ) → code .plain w ≡ byte b → code .hideByte b ≡ w ∷ []
+  pub after-byte : (e x b : ℕ) → code .plain e ≡ waits → code .after x ≡ byte b → code .hideByte b ≡ e ∷ x ∷ []
+  pub after-settles : (x : ℕ) → code .after x ≡ waits → ⊥
 
 -- what is read of wire bytes, with a byte of so many wire bytes before it
 abbrev pub led : ℕ → ℕ → List ℕ × ℕ → List ℕ × ℕ
@@ -32,9 +44,7 @@ module _ (code : Code) (lawful : Lawful code) where
   read-coded b n _ rest (pair e x p a) = rw (p, a)
 
   -- hidden bytes read back, and then what follows them is read
-  pub unhide-hide : (bytes rest : List ℕ) (n : ℕ)
-      → let u = unhideUpTo code n rest in
-      unhideUpTo code (length bytes + n) (hide code bytes ++ rest) ≡ (bytes ++ u .0, length (hide code bytes) + u .1)
+  pub unhide-hide : HiddenReadsBack code
   unfolding each
   unhide-hide [] rest n =
       let u = unhideUpTo code n rest in
@@ -74,7 +84,7 @@ module _ (code : Code) (lawful : Lawful code) where
   back-first w wire behind both end p h k = refl
   back-first w wire behind both wrong p h k = refl
 
-  pub hide-unhide : (n : ℕ) (wire : List ℕ) → let u = unhideUpTo code n wire in take (u .1) wire ≡ hide code (u .0)
+  pub hide-unhide : ReadIsHidden code
   unfolding each unhideUpTo
   hide-unhide zero wire = refl
   hide-unhide (suc n) [] = refl

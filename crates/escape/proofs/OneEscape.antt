@@ -3,7 +3,7 @@ use Prim.Native.Nat.{ℕ}
 use mathlib.Core.Path.{_≡_, ap, sym, _∙_, subst}
 use mathlib.Core.List.{[], _∷_}
 use Rattle.escape.specs.Code.{Meaning, byte, waits, start, end, wrong, Code}
-use Rattle.escape.specs.Claims.{Coded, Lawful}
+use Rattle.escape.proofs.Lawful.{Coded, Lawful}
 
 module _ (code : Code) (escape : ℕ) where
   -- what is to be shown of the meaning of a wire byte w with nothing waiting

@@ -1,23 +1,21 @@
 -- What is claimed of the codes.
-use Prim.Native.Nat.{ℕ, _≤_}
+use Prim.Native.Nat.{ℕ, _+_, _≤_}
 use mathlib.Core.Path.{_≡_}
 use mathlib.Core.List.{List, [], _∷_, _++_}
-use lib.ListN.{length, getD}
-use Rattle.escape.specs.Code.{Code, byte, waits, hide}
+use lib.ListN.{length, getD, take}
+use Rattle.escape.specs.Code.{Code, hide, unhideUpTo}
 use Rattle.escape.specs.Dle.{dle}
 use Rattle.escape.specs.Expansion.{expansion}
 
--- the run that hides a byte is the byte alone, where it means itself, or a byte that waits and one that completes the hidden byte
-pub data Coded (code : Code) (b : ℕ) : List ℕ → Type 0 where
-  alone : code .plain b ≡ byte b → Coded code b (b ∷ [])
-  pair : (e x : ℕ) → code .plain e ≡ waits → code .after x ≡ byte b → Coded code b (e ∷ x ∷ [])
+-- of both codes: hidden bytes read back, whatever stands behind them; asked for n bytes more, reading goes on with what stands behind
+abbrev pub HiddenReadsBack : Code → Type 0
+HiddenReadsBack code =
+    (bytes behind : List ℕ) (n : ℕ) → let u = unhideUpTo code n behind in
+    unhideUpTo code (length bytes + n) (hide code bytes ++ behind) ≡ (bytes ++ u .0, length (hide code bytes) + u .1)
 
--- hiding and reading fit together: each run reads back as its byte, and nothing else reads as that byte
-pub record Lawful (code : Code) : Type 0 where
-  pub coded : (b : ℕ) → Coded code b (code .hideByte b)
-  pub plain-byte : (w b : ℕ) → code .plain w ≡ byte b → code .hideByte b ≡ w ∷ []
-  pub after-byte : (e x b : ℕ) → code .plain e ≡ waits → code .after x ≡ byte b → code .hideByte b ≡ e ∷ x ∷ []
-  pub after-settles : (x : ℕ) → code .after x ≡ waits → ⊥
+-- of both codes: what is read of any wire bytes, hidden again, is the part of them that it was read of
+abbrev pub ReadIsHidden : Code → Type 0
+ReadIsHidden code = (n : ℕ) (wire : List ℕ) → let u = unhideUpTo code n wire in take (u .1) wire ≡ hide code (u .0)
 
 -- expansion: no FD and no FE stands at any place of hidden bytes
 abbrev pub NoMarks : Type 0

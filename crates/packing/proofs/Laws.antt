@@ -15,7 +15,7 @@ use Rattle.packing.specs.Unpacked.{joined, unpackedGroup, unpackedGroups
 use Rattle.packing.proofs.Groups.{First, by-groups}
 use Rattle.packing.proofs.Seven.{allSent-at}
 use Rattle.packing.proofs.Group.{length-group, length-unpackedGroup, group-back}
-use Rattle.packing.proofs.Lengths.{packed-nil, packed-first, dataOf-nil, dataOf-first, length-packed, length-dataOf}
+use Rattle.packing.proofs.Lengths.{packed-nil, packed-first, dataInGroups-nil, dataInGroups-first, length-packed, length-dataInGroups}
 use Rattle.packing.proofs.WellPacked.{group-well, well-nil, well-first, well-group}
 
 -- ---- there and back
@@ -23,7 +23,7 @@ use Rattle.packing.proofs.WellPacked.{group-well, well-nil, well-first,
 round : (d : List ℕ) → Bytes d → (wellPacked (packed d) ≡ true) × (dataInGroups (packed d) ≡ d)
 round =
     by-groups 7 (lit< tt) (λ d. Bytes d → (wellPacked (packed d) ≡ true) × (dataInGroups (packed d) ≡ d))
-    (λ h. (ap wellPacked packed-nil ∙ well-nil, ap dataInGroups packed-nil ∙ dataOf-nil)) more
+    (λ h. (ap wellPacked packed-nil ∙ well-nil, ap dataInGroups packed-nil ∙ dataInGroups-nil)) more
   where
     more : (g r : List ℕ) → First 7 g r → (Bytes r → (wellPacked (packed r) ≡ true) × (dataInGroups (packed r) ≡ r))
         → Bytes (g ++ r) → (wellPacked (packed (g ++ r)) ≡ true) × (dataInGroups (packed (g ++ r)) ≡ g ++ r)
@@ -34,7 +34,7 @@ round =
         let f8 : First 8 (packedGroup g) (packed r) = omega (arith, length-packed r) in
         let k : length (packedGroup g) - 1 ≡ length g = omega arith in (
           rw (packed-first g r f, well-first (packedGroup g) (packed r) f8, group-well g hg (omega arith) (omega arith), rest .0),
-          rw (packed-first g r f, dataOf-first (packedGroup g) (packed r) f8, k, group-back g hg (omega arith), rest .1),
+          rw (packed-first g r f, dataInGroups-first (packedGroup g) (packed r) f8, k, group-back g hg (omega arith), rest .1),
         )
 
 -- what is packed unpacks to the data
@@ -43,15 +43,15 @@ unfolding unpacked
 unpacked-packed d h = rw (round d h .0, round d h .1)
 
 back : (p : List ℕ) → wellPacked p ≡ true → packed (dataInGroups p) ≡ p
-back = by-groups 8 (lit< tt) (λ p. wellPacked p ≡ true → packed (dataInGroups p) ≡ p) (λ w. ap packed dataOf-nil ∙ packed-nil) more
+back = by-groups 8 (lit< tt) (λ p. wellPacked p ≡ true → packed (dataInGroups p) ≡ p) (λ w. ap packed dataInGroups-nil ∙ packed-nil) more
   where
     more : (q r : List ℕ) → First 8 q r → (wellPacked r ≡ true → packed (dataInGroups r) ≡ r) → wellPacked (q ++ r) ≡ true → packed (dataInGroups (q ++ r)) ≡ q ++ r
     more q r f ih w =
         let both : (wellPacked q ≡ true) × (wellPacked r ≡ true) = and-both (wellPacked q) (wellPacked r) (sym (well-first q r f) ∙ w) in
         let g : (1 < length q) × (packedGroup (unpackedGroup (length q - 1) q) ≡ q) = well-group q (f .0) (omega arith) (both .0) in
         let k : length (unpackedGroup (length q - 1) q) ≡ length q - 1 = length-unpackedGroup (length q - 1) q (omega arith) in
-        let f7 : First 7 (unpackedGroup (length q - 1) q) (dataInGroups r) = omega (arith, length-dataOf r) in
-        rw (dataOf-first q r f, packed-first (unpackedGroup (length q - 1) q) (dataInGroups r) f7, g .1, ih (both .1))
+        let f7 : First 7 (unpackedGroup (length q - 1) q) (dataInGroups r) = omega (arith, length-dataInGroups r) in
+        rw (dataInGroups-first q r f, packed-first (unpackedGroup (length q - 1) q) (dataInGroups r) f7, g .1, ih (both .1))
 
 -- what unpacks is well packed, and gives the data of all groups
 unpacked-is : (p d : List ℕ) → unpacked p ≡ some d → (wellPacked p ≡ true) × (dataInGroups p ≡ d)
@@ -80,7 +80,7 @@ pub packed-sent-at : (d : List ℕ) → Bytes d → (i : ℕ) → i < length (pa
 packed-sent-at d h = allSent-at (packed d) (packed-sent d h)
 
 pub length-unpacked : (p d : List ℕ) → unpacked p ≡ some d → length d ≡ length p - (length p + 7) / 8
-length-unpacked p d e = ap length (sym (unpacked-is p d e .1)) ∙ length-dataOf p
+length-unpacked p d e = ap length (sym (unpacked-is p d e .1)) ∙ length-dataInGroups p
 
 -- unpacked data are bytes
 joined-bytes : (t : ℕ) (g : List ℕ) → Bytes (joined t g)

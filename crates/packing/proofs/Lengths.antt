@@ -22,13 +22,13 @@ packed-first g r f =
     let n : (length (g ++ r) + 6) / 7 ≡ suc ((length r + 6) / 7) = rw length-append (omega arith) in
     rw (n, first-take 7 g r f, first-drop 7 g r f)
 
-pub dataOf-nil : dataInGroups [] ≡ []
+pub dataInGroups-nil : dataInGroups [] ≡ []
 unfolding dataInGroups unpackedGroups
-dataOf-nil = refl
+dataInGroups-nil = refl
 
-pub dataOf-first : (p r : List ℕ) → First 8 p r → dataInGroups (p ++ r) ≡ unpackedGroup (length p - 1) p ++ dataInGroups r
+pub dataInGroups-first : (p r : List ℕ) → First 8 p r → dataInGroups (p ++ r) ≡ unpackedGroup (length p - 1) p ++ dataInGroups r
 unfolding dataInGroups unpackedGroups
-dataOf-first p r f =
+dataInGroups-first p r f =
     let n : (length (p ++ r) + 7) / 8 ≡ suc ((length r + 7) / 8) = rw length-append (omega arith) in
     let k : min 7 (length (p ++ r) - 1) ≡ length p - 1 = rw length-append (omega arith) in
     rw (n, k, first-drop 8 p r f, group-append (length p - 1) p r (omega arith))
@@ -41,8 +41,8 @@ packed-next k l pos e =
     let b : length (drop k l) ≡ length l - k = length-drop k l in
     ap packed (sym (take-append-drop k l)) ∙ packed-first (take k l) (drop k l) (omega arith)
 
-pub dataOf-next : (k : ℕ) (p : List ℕ) → suc k ≡ min 8 (length p) → dataInGroups p ≡ unpackedGroup k p ++ dataInGroups (drop (suc k) p)
-dataOf-next k p e =
+pub dataInGroups-next : (k : ℕ) (p : List ℕ) → suc k ≡ min 8 (length p) → dataInGroups p ≡ unpackedGroup k p ++ dataInGroups (drop (suc k) p)
+dataInGroups-next k p e =
     let q : List ℕ = take (suc k) p in
     let r : List ℕ = drop (suc k) p in
     let a : length q ≡ min (suc k) (length p) = length-take (suc k) p in
@@ -50,7 +50,7 @@ dataOf-next k p e =
     let n : length q - 1 ≡ k = omega arith in
     let whole : unpackedGroup k p ≡ unpackedGroup k q = ap (unpackedGroup k) (sym (take-append-drop (suc k) p)) ∙ group-append k q r (omega arith) in
     ap dataInGroups (sym (take-append-drop (suc k) p))
-    ∙ dataOf-first q r (omega arith)
+    ∙ dataInGroups-first q r (omega arith)
     ∙ ap (λ (m : ℕ). unpackedGroup m q ++ dataInGroups r) n
     ∙ ap (λ (g : List ℕ). g ++ dataInGroups r) (sym whole)
 
@@ -65,9 +65,9 @@ length-packed =
 pub longest : (d : List ℕ) → length d ≡ 1024 → length (packed d) ≡ 1171
 longest d e = rw (length-packed d, e)
 
-pub length-dataOf : (p : List ℕ) → length (dataInGroups p) ≡ length p - (length p + 7) / 8
-length-dataOf =
-    by-groups 8 (lit< tt) (λ p. length (dataInGroups p) ≡ length p - (length p + 7) / 8) (ap length dataOf-nil)
+pub length-dataInGroups : (p : List ℕ) → length (dataInGroups p) ≡ length p - (length p + 7) / 8
+length-dataInGroups =
+    by-groups 8 (lit< tt) (λ p. length (dataInGroups p) ≡ length p - (length p + 7) / 8) (ap length dataInGroups-nil)
     (λ q r f ih.
     let k : length (unpackedGroup (length q - 1) q) ≡ length q - 1 = length-unpackedGroup (length q - 1) q (omega arith) in
-    rw (dataOf-first q r f, length-append, length-append, k, ih) (omega arith))
+    rw (dataInGroups-first q r f, length-append, length-append, k, ih) (omega arith))

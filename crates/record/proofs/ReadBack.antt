@@ -69,17 +69,17 @@ module _ {A : Type 0} (F : Signedness A) where
     found-address : addressOf sent ≡ address
     found-address =
         let small : address < 65536 = omega (arith, facts, limit-le kind) in
-        let cut : drop 1 sent ≡ bytesOf 2 address ++ (bytesOf 2 (length l) ++ sent-elements) = append-assoc (bytesOf 2 address) (bytesOf 2 (length l)) sent-elements in
-        ap (λ (b : List ℕ). littleEndian (take 2 b)) cut
+        let behind-kind : drop 1 sent ≡ bytesOf 2 address ++ (bytesOf 2 (length l) ++ sent-elements) = append-assoc (bytesOf 2 address) (bytesOf 2 (length l)) sent-elements in
+        ap (λ (b : List ℕ). littleEndian (take 2 b)) behind-kind
         ∙ ap littleEndian (take-at (bytesOf 2 address) (bytesOf 2 (length l) ++ sent-elements) 2 (length-bytesOf 2 address))
         ∙ number-bytesOf 2 address small
 
     found-count : countOf sent ≡ length l
     found-count =
         let few : length l < 65536 = omega (arith, facts, limit-le kind) in
-        let cut : drop 3 sent ≡ bytesOf 2 (length l) ++ sent-elements =
+        let behind-address : drop 3 sent ≡ bytesOf 2 (length l) ++ sent-elements =
         ap (λ (b : List ℕ). drop 2 b) (append-assoc (bytesOf 2 address) (bytesOf 2 (length l)) sent-elements) ∙ drop-at (bytesOf 2 address) (bytesOf 2 (length l) ++ sent-elements) 2 (length-bytesOf 2 address) in
-        ap (λ (b : List ℕ). littleEndian (take 2 b)) cut
+        ap (λ (b : List ℕ). littleEndian (take 2 b)) behind-address
         ∙ ap littleEndian (take-at (bytesOf 2 (length l)) sent-elements 2 (length-bytesOf 2 (length l)))
         ∙ number-bytesOf 2 (length l) few
 

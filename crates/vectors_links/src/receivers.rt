@@ -178,7 +178,7 @@ fn run_fresh(line: &[u8], kept: Kept, store: &mut [u8]) -> Kept {
 }
 
 // A store of these bytes; the state stays.
-fn answer_store(line: &[u8], kept: Kept, frame: &[u8], store: &mut [u8]) -> Kept {
+fn run_store(line: &[u8], kept: Kept, frame: &[u8], store: &mut [u8]) -> Kept {
     let last = memory::within(kept.frame, frame);
     let mut after = kept;
     after.room = words::bytes(line, 1, &frame[..last], store);
@@ -239,7 +239,7 @@ pub(crate) fn run(line: &[u8], kept: Kept, frame: &[u8], store: &mut [u8]) -> Ke
         return run_fresh(line, kept, store);
     }
     if words::is(line, 0, b"store") {
-        return answer_store(line, kept, frame, store);
+        return run_store(line, kept, frame, store);
     }
     if words::is(line, 0, b"content") {
         show_content(kept.room, store);

@@ -11,7 +11,7 @@ use borrow.Author.Needs.{needs}
 use Rattle.packing.specs.Unpacked.{unpackedGroup, dataInGroups}
 use lib.Seq.{sets}
 use Rattle.packing.proofs.Group.{group-append, length-unpackedGroup}
-use Rattle.packing.proofs.Lengths.{dataOf-nil, dataOf-next, length-dataOf}
+use Rattle.packing.proofs.Lengths.{dataInGroups-nil, dataInGroups-next, length-dataInGroups}
 use Rattle.packing.proofs.unpack_all.Statement.{statement}
 use Rattle.packing.proofs.unpack_all.Tie as tie
 
@@ -47,7 +47,7 @@ module _ (d : List ℕ) (from count e k : ℕ) (h : from + count ≤ length d) (
   next : dataInGroups (drop e (part d from count)) ≡ unpackedGroup k (drop (from + e) d) ++ dataInGroups (drop (e + k + 1) (part d from count))
   next =
       let n : e + suc k ≡ e + k + 1 = omega arith in
-      dataOf-next k (drop e (part d from count)) (omega (arith, long))
+      dataInGroups-next k (drop e (part d from count)) (omega (arith, long))
       ∙ ap₂ (λ (g r : List ℕ). g ++ dataInGroups r) (sym here) (drop-drop (suc k) e (part d from count) ∙ ap (λ (i : ℕ). drop i (part d from count)) n)
 
 abbrev S : tie.At-loop Inv-loop μ-loop → tie.Start Inv-loop μ-loop
@@ -58,7 +58,7 @@ loop-holds c =
     let s = c .before in
     let p : List ℕ = part (s .args .store .now) (s .args .from) (s .args .count) in
     let n : length p ≤ length (s .args .store .now) = simp (length-take, length-drop) (omega arith) in
-    (omega arith, omega arith, run-start (omega (arith, length-dataOf p)) refl)
+    (omega arith, omega arith, run-start (omega (arith, length-dataInGroups p)) refl)
 
 loop-again : tie.Need-loop-again Inv-loop μ-loop
 loop-again c =
@@ -86,7 +86,7 @@ returns : tie.Need-returns Inv-loop μ-loop
 returns c =
     let a = c .before in
     let p : List ℕ = part (S a .args .store .now) (S a .args .from) (S a .args .count) in
-    let none : dataInGroups (drop (a .loop .e) p) ≡ [] = ap dataInGroups (drop-of-length-le p {i = a .loop .e} (simp (length-take, length-drop) (omega arith))) ∙ dataOf-nil in
+    let none : dataInGroups (drop (a .loop .e) p) ≡ [] = ap dataInGroups (drop-of-length-le p {i = a .loop .e} (simp (length-take, length-drop) (omega arith))) ∙ dataInGroups-nil in
     (omega (arith, ap length none), run-end (a .loop .inv .2) none)
 
 pub unpack-all-spec : {M : Type 1} → statement M
