@@ -84,14 +84,41 @@ module _ (code : Code) (lawful : Lawful code) where
   back-first w wire behind both end p h k = refl
   back-first w wire behind both wrong p h k = refl
 
-  pub hide-unhide : ReadIsHidden code
+  taken-hidden : (n : ℕ) (wire : List ℕ) → take (unhideUpTo code n wire .1) wire ≡ hide code (unhideUpTo code n wire .0)
   unfolding each unhideUpTo
-  hide-unhide zero wire = refl
-  hide-unhide (suc n) [] = refl
-  hide-unhide (suc n) (w ∷ []) = back-first w [] ([], 0) ([], 0) (code .plain w) refl refl (λ _. refl)
-  hide-unhide (suc n) (w ∷ x ∷ wire) =
-      back-first w (x ∷ wire) (unhideUpTo code n (x ∷ wire)) _ (code .plain w) refl (hide-unhide n (x ∷ wire))
-      (λ e. back-second w x wire (unhideUpTo code n wire) e (code .after x) refl (hide-unhide n wire))
+  taken-hidden zero wire = refl
+  taken-hidden (suc n) [] = refl
+  taken-hidden (suc n) (w ∷ []) = back-first w [] ([], 0) ([], 0) (code .plain w) refl refl (λ _. refl)
+  taken-hidden (suc n) (w ∷ x ∷ wire) =
+      back-first w (x ∷ wire) (unhideUpTo code n (x ∷ wire)) _ (code .plain w) refl (taken-hidden n (x ∷ wire))
+      (λ e. back-second w x wire (unhideUpTo code n wire) e (code .after x) refl (taken-hidden n wire))
+
+  -- as many wire bytes are counted as there are, at most
+  first-within : (m : Meaning) (behind both : List ℕ × ℕ) (k : ℕ) → behind .1 ≤ k → both .1 ≤ suc k → readFirst m behind both .1 ≤ suc k
+  first-within (byte b) behind both k h l = omega arith
+  first-within waits behind both k h l = l
+  first-within start behind both k h l = omega arith
+  first-within end behind both k h l = omega arith
+  first-within wrong behind both k h l = omega arith
+
+  second-within : (m : Meaning) (behind : List ℕ × ℕ) (k : ℕ) → behind .1 ≤ k → readSecond m behind .1 ≤ suc (suc k)
+  second-within (byte b) behind k h = omega arith
+  second-within waits behind k h = omega arith
+  second-within start behind k h = omega arith
+  second-within end behind k h = omega arith
+  second-within wrong behind k h = omega arith
+
+  taken-within : (n : ℕ) (wire : List ℕ) → unhideUpTo code n wire .1 ≤ length wire
+  unfolding unhideUpTo
+  taken-within zero wire = omega arith
+  taken-within (suc n) [] = omega arith
+  taken-within (suc n) (w ∷ []) = first-within (code .plain w) ([], 0) ([], 0) 0 (omega arith) (omega arith)
+  taken-within (suc n) (w ∷ x ∷ wire) =
+      first-within (code .plain w) (unhideUpTo code n (x ∷ wire)) _ (length (x ∷ wire)) (taken-within n (x ∷ wire))
+      (second-within (code .after x) (unhideUpTo code n wire) (length wire) (taken-within n wire))
+
+  pub hide-unhide : ReadIsHidden code
+  hide-unhide n wire = (taken-hidden n wire, taken-within n wire)
 
   coded-size : (b : ℕ) (run : List ℕ) → Coded code b run → (1 ≤ length run) × (length run ≤ 2)
   coded-size b _ (alone p) = (omega arith, omega arith)

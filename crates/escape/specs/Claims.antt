@@ -13,9 +13,11 @@ HiddenReadsBack code =
     (bytes behind : List ℕ) (n : ℕ) → let u = unhideUpTo code n behind in
     unhideUpTo code (length bytes + n) (hide code bytes ++ behind) ≡ (bytes ++ u .0, length (hide code bytes) + u .1)
 
--- of both codes: what is read of any wire bytes, hidden again, is the part of them that it was read of
+-- of both codes: what is read of any wire bytes, hidden again, is the part of them that it was read of, and no wire byte is counted that is not there
 abbrev pub ReadIsHidden : Code → Type 0
-ReadIsHidden code = (n : ℕ) (wire : List ℕ) → let u = unhideUpTo code n wire in take (u .1) wire ≡ hide code (u .0)
+ReadIsHidden code =
+    (n : ℕ) (wire : List ℕ) → let u = unhideUpTo code n wire in
+    (take (u .1) wire ≡ hide code (u .0)) × (u .1 ≤ length wire)
 
 -- expansion: no FD and no FE stands at any place of hidden bytes
 abbrev pub NoMarks : Type 0

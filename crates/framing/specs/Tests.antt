@@ -8,7 +8,7 @@ abbrev pub firstOf : List (Bool × ℕ) → ℕ
 firstOf [] = 0
 firstOf ((fires, fault) ∷ tests) = cond fires fault (firstOf tests)
 
--- a writer, before it stores: 3 where the message may not be sent, then 2 where its frame does not fit
+-- a writer, before it stores: 3 where the message may not be sent or the record not be written, then 2 where its bytes do not fit
 abbrev pub writeFault : Bool → Bool → ℕ
 writeFault sendable fits = firstOf ((not sendable, 3) ∷ (not fits, 2) ∷ [])
 

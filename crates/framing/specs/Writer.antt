@@ -8,7 +8,7 @@ use lib.Seq.{sets}
 use Rattle.framing.specs.Answer.{Outcome, done, refused}
 use Rattle.framing.specs.Tests.{writeFault}
 
--- a writer: refused with 3 or 2, and the memory as it came; or the frame at the start of the memory, and nothing after it
+-- a writer of frames, or of records: refused with 3 or 2, and the memory as it came; or the frame at the start of the memory, and nothing after it
 abbrev pub writes : {M : Type 0} → (M → Bool) → (M → List ℕ) → M → List ℕ → Outcome ℕ × List ℕ
 writes ok frame m memory =
     let fault = writeFault (ok m) (leb (length (frame m)) (length memory)) in

@@ -43,7 +43,7 @@ fn int32_of(answer: Answer) -> i32
 {
     match answer {
         Answer::Done(n) => n as i32,
-        Answer::Refused(n) => -(n as i32),
+        Answer::Refused(fault) => -(fault as i32),
     }
 }
 
@@ -120,7 +120,7 @@ fn encode_pcs(event: pcs::Event, exact: bool) -> u64
 {
     match event {
         pcs::Event::Nothing => refusal::TOO_SHORT as u64,
-        pcs::Event::Refused(n) => n as u64,
+        pcs::Event::Refused(fault) => fault as u64,
         pcs::Event::Accepted(m) => {
             if exact {
                 pack(
@@ -145,7 +145,7 @@ fn encode_mdu(event: mdu::Event, exact: bool) -> u64
 {
     match event {
         mdu::Event::Nothing => refusal::TOO_SHORT as u64,
-        mdu::Event::Refused(n) => n as u64,
+        mdu::Event::Refused(fault) => fault as u64,
         mdu::Event::Accepted(m) => {
             if exact {
                 pack(m.length, 0, m.address, 0, 0, 0, 0)
@@ -173,7 +173,7 @@ fn encode_dle(event: dle::Event, exact: bool) -> u64
 {
     match event {
         dle::Event::Nothing => refusal::TOO_SHORT as u64,
-        dle::Event::Refused(n) => n as u64,
+        dle::Event::Refused(fault) => fault as u64,
         dle::Event::Accepted(m) => {
             if exact {
                 dle_code(m)
@@ -190,7 +190,7 @@ fn encode_expansion(event: expansion::Event, exact: bool) -> u64
 {
     match event {
         expansion::Event::Nothing => refusal::TOO_SHORT as u64,
-        expansion::Event::Refused(n) => n as u64,
+        expansion::Event::Refused(fault) => fault as u64,
         expansion::Event::Accepted(m) => {
             if exact {
                 pack(m.length, 0, m.id, m.kind, m.repeat, m.address, 0)

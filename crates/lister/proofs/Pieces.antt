@@ -5,7 +5,7 @@ use mathlib.Core.Bool.{Bool, true, false}
 use mathlib.Core.List.{List, [], _∷_, _++_, append-assoc}
 use native.Mathlib.Omega.{arith}
 use lib.Dec.{leb}
-use lib.ListN.{length, take, drop, length-append, length-drop}
+use lib.ListN.{length, take, drop, length-drop}
 use lib.Seq.{sets}
 use borrow.Author.Tests.{le-leb, lt-leb, leb-true, leb-false}
 use Rattle.runs.specs.Runs.{Bytes}
@@ -13,7 +13,7 @@ use Rattle.runs.proofs.Bytes.{bytes-left, bytes-right, bytes-drop, bytes-append
 use Rattle.runs.proofs.Run.{part-sets}
 use Rattle.framing.specs.Receiver.{join}
 use Rattle.lister.specs.Feeding.{Lent, endOf}
-use Rattle.lister.specs.Claims.{onward, texts}
+use Rattle.lister.specs.Claims.{onward, texts, callsFor}
 
 no-more : (n : ℕ) (l : List ℕ) → length l ≤ n → drop n l ≡ []
 no-more n l h = empty (drop n l) (omega (arith, length-drop n l))
@@ -37,6 +37,15 @@ All ms c ps = texts ms c ps .0 ++ endOf (texts ms c ps .1 .0)
 abbrev pub left : ℕ → List ℕ → List (List ℕ) → List (List ℕ)
 left n p ps = onward (leb (length p) n) (drop n p) ps
 
+-- a piece takes a call at least, and one that is not empty one for each byte
+pub calls-first : (p : List ℕ) (ps : List (List ℕ)) → 1 + callsFor ps ≤ callsFor (p ∷ ps)
+calls-first [] ps = omega arith
+calls-first (b ∷ p) ps = omega arith
+
+calls-some : (p : List ℕ) (ps : List (List ℕ)) → 0 < length p → callsFor (p ∷ ps) ≡ length p + callsFor ps
+calls-some [] ps h = absurd (omega arith)
+calls-some (b ∷ p) ps h = refl
+
 module _ (n : ℕ) (p : List ℕ) (ps : List (List ℕ)) where
   pub left-is : join (left n p ps) ≡ drop n p ++ join ps
   left-is = go (leb (length p) n) refl
@@ -49,18 +58,14 @@ module _ (n : ℕ) (p : List ℕ) (ps : List (List ℕ)) where
   left-bytes y = subst Bytes (sym left-is) (bytes-append (drop n p) (join ps) (bytes-drop n p (bytes-left p (join ps) y)) (bytes-right p (join ps) y))
 
   -- a call uses up the piece or at least a byte, so the memories are enough for what is left
-  pub left-few : (k : ℕ) → suc (length ps) + length (p ++ join ps) ≤ suc k → (n < length p → 1 ≤ n) → length (left n p ps) + length (join (left n p ps)) ≤ k
+  pub left-few : (k : ℕ) → callsFor (p ∷ ps) ≤ suc k → (n < length p → 1 ≤ n) → callsFor (left n p ps) ≤ k
   left-few k h u = go (leb (length p) n) refl
     where
-      long : length (p ++ join ps) ≡ length p + length (join ps)
-      long = length-append p (join ps)
-
-      go : (b : Bool) → leb (length p) n ≡ b → length (onward b (drop n p) ps) + length (join (onward b (drop n p) ps)) ≤ k
-      go true e = omega (arith, long, h)
+      go : (b : Bool) → leb (length p) n ≡ b → callsFor (onward b (drop n p) ps) ≤ k
+      go true e = omega (arith, calls-first p ps, h)
       go false e =
           let l = leb-false (length p) n e in
-          let v = u l in
-          simp (length-append, length-drop) (omega (arith, long, h))
+          omega (arith, u l, h, calls-some p ps (omega arith), calls-some (drop n p) ps (omega (arith, length-drop n p)), length-drop n p)
 
   -- behind the letter
   pub left-suc : (letter : ℕ) → left (1 + n) (letter ∷ p) ps ≡ left n p ps
