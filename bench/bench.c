@@ -7,13 +7,12 @@
 #include <string.h>
 #include <zlib.h>
 
-uint16_t bench_crc16(const uint8_t *p, size_t n);
 uint32_t bench_crc32(const uint8_t *p, size_t n);
 uint8_t bench_sum(const uint8_t *p, size_t n);
 size_t bench_pack(const uint8_t *data, size_t n, uint8_t *out, size_t room);
 size_t bench_unpack(uint8_t *store, size_t size, size_t from, size_t count);
 
-const struct side linebox = {"linebox", bench_crc16, bench_crc32, bench_sum, bench_pack, bench_unpack, linebox_pcs_write, linebox_mdu_write,
+const struct side linebox = {"linebox", linebox_crc16, bench_crc32, bench_sum, bench_pack, bench_unpack, linebox_pcs_write, linebox_mdu_write,
     linebox_dle_write, linebox_expansion_write, linebox_pcs_read, linebox_mdu_read, linebox_dle_read, linebox_expansion_read};
 
 static uint32_t zlib_crc32(const uint8_t *p, size_t n) { return (uint32_t)crc32(0, p, (uInt)n); }
@@ -23,6 +22,8 @@ const struct side *opponents[WAYS][COMPILERS] = {[WAYS - 1] = {0, &zlib}};
 
 uint8_t out[4096], store[2048];
 static size_t room = sizeof out, size = sizeof store; /* how much of them is lent */
+static uint16_t start;                                /* of a 16-bit check: 0 while it is timed */
+static size_t block;                                  /* how many bytes of a run a call is given */
 
 /* Unpacking needs its bytes in the store: they are laid there anew each time, on every side. */
 static size_t unpacked(const struct side *s, const uint8_t *p, size_t n) { memcpy(store, p, n); return s->unpack(store, sizeof store, 8, n - 8); }
@@ -31,7 +32,7 @@ static size_t unpacked(const struct side *s, const uint8_t *p, size_t n) { memcp
     static void (*f##_entry(const struct side *s))(void) { return (void (*)(void))s->f; } \
     static uint64_t f##_run(const struct side *s, const uint8_t *p, size_t n) { return (uint64_t)(call); } \
     static const struct work f##_work = {name, writes, f##_entry, f##_run};
-WORK("CRC-16", 0, crc16, s->crc16(p, n))
+WORK("CRC-16", 0, crc16, s->crc16(start, p, n))
 WORK("CRC-32", 0, crc32, s->crc32(p, n))
 WORK("PCS sum", 0, sum, s->sum(p, n))
 WORK("PCS packing", 1, pack, s->pack(p, n, out, room))
@@ -45,11 +46,19 @@ WORK("MDU read", 0, mdu_read, s->mdu_read(p, n, store, size))
 WORK("DLE read", 0, dle_read, s->dle_read(p, n, store, size))
 WORK("expansion read", 0, expansion_read, s->expansion_read(p, n, store, size))
 
+/* A run in blocks, each from the value of the one before it. */
+static uint64_t blocks_run(const struct side *s, const uint8_t *p, size_t n) {
+    uint16_t c = start;
+    for (size_t i = 0; i < n; i += block) c = s->crc16(c, p + i, n - i < block ? n - i : block);
+    return c;
+}
+static const struct work blocks_work = {"CRC-16", 0, crc16_entry, blocks_run};
+
 static uint64_t state = 88172645463325252u;
 static uint64_t next(void) { state ^= state << 13; state ^= state >> 7; state ^= state << 17; return state >> 16; }
 
 /* The inputs of a row, made of as many payloads: a branch predictor does not learn them by heart as it would one. */
-enum { INPUTS = 32, LONGEST = 2100, ANY = -1, NOISE = 65536 };
+enum { INPUTS = 32, LONGEST = 2100, ANY = -1, NOISE = 65536, BODY = 8192 };
 static uint8_t memory[INPUTS][LONGEST];
 static struct input inputs[INPUTS];
 
@@ -81,10 +90,12 @@ static void damaged(const struct work *w, size_t least) {
         else if (next() % 4 == 0) wrong[n++] = (uint8_t)next();
         room = next() % 4 ? sizeof out : next() % LONGEST;
         size = next() % 8 ? sizeof store : next() % sizeof store;
+        start = (uint16_t)(k * 40503);
         agree(w, &(struct input){wrong, n}, 1);
     }
     room = sizeof out;
     size = sizeof store;
+    start = 0;
 }
 
 static void row(const char *name, const struct work *w, size_t n, int byte) {
@@ -107,9 +118,19 @@ static void noise_row(const char *name, const struct work *w, size_t n) {
     measure(name, w, &(struct input){noise, n}, 1);
 }
 
+static void blocks_row(const char *name, size_t of) {
+    static uint8_t run[BODY];
+    for (size_t i = 0; i < BODY; i++) run[i] = (uint8_t)(167 * i ^ i >> 8);
+    block = of;
+    measure(name, &blocks_work, &(struct input){run, BODY}, 1);
+}
+
 static void values(void) {
     static const size_t sizes[] = {4, 16, 64, 95, 96, 256, 1024};
     for (size_t i = 0; i < sizeof sizes / sizeof *sizes; i++) row("CRC-16", &crc16_work, sizes[i], ANY);
+    blocks_row("CRC-16 in blocks of 64", 64);
+    blocks_row("CRC-16 in blocks of 256", 256);
+    blocks_row("CRC-16 in blocks of 1024", 1024);
     for (size_t i = 0; i < sizeof sizes / sizeof *sizes; i++) row("CRC-32", &crc32_work, sizes[i], ANY);
     for (size_t n = 16; n <= 1024; n *= 8) row("PCS sum", &sum_work, n, ANY);
     for (size_t n = 16; n <= 1024; n *= 8) row("PCS packing", &pack_work, n, ANY);

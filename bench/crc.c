@@ -1,8 +1,7 @@
 /* Both CRCs in C: bit by bit, by a table of 256 entries, and eight bytes at a time by eight tables (slicing by 8). */
 #include "parts.h"
 
-uint16_t crc16_bits(const uint8_t *p, size_t n) {
-    uint16_t c = 0;
+uint16_t crc16_bits(uint16_t c, const uint8_t *p, size_t n) {
     for (size_t i = 0; i < n; i++) {
         c ^= p[i];
         for (int k = 0; k < 8; k++) c = c & 1 ? (c >> 1) ^ 0xA001 : c >> 1;
@@ -43,26 +42,23 @@ __attribute__((constructor)) static void fill(void) {
         }
 }
 
-static uint16_t more16(uint16_t c, const uint8_t *p, size_t n) {
+uint16_t crc16_table(uint16_t c, const uint8_t *p, size_t n) {
     for (size_t i = 0; i < n; i++) c = one16[(c ^ p[i]) & 255] ^ c >> 8;
     return c;
 }
-
-uint16_t crc16_table(const uint8_t *p, size_t n) { return more16(0, p, n); }
 
 uint32_t crc32_table(uint32_t c, const uint8_t *p, size_t n) {
     for (size_t i = 0; i < n; i++) c = one32[(c ^ p[i]) & 255] ^ c >> 8;
     return c;
 }
 
-uint16_t crc16_slices(const uint8_t *p, size_t n) {
-    uint16_t c = 0;
+uint16_t crc16_slices(uint16_t c, const uint8_t *p, size_t n) {
     for (; n >= 8; p += 8, n -= 8) {
         uint64_t w = load8(p) ^ c;
         c = slice16[6][w & 255] ^ slice16[5][w >> 8 & 255] ^ slice16[4][w >> 16 & 255] ^ slice16[3][w >> 24 & 255]
             ^ slice16[2][w >> 32 & 255] ^ slice16[1][w >> 40 & 255] ^ slice16[0][w >> 48 & 255] ^ one16[w >> 56];
     }
-    return more16(c, p, n);
+    return crc16_table(c, p, n);
 }
 
 uint32_t crc32_slices(uint32_t c, const uint8_t *p, size_t n) {

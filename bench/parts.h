@@ -1,11 +1,12 @@
-/* What the opponents' files share. The registers of crc32_.. come in and go out as they are: a value starts with all ones and ends inverted. */
+/* What the opponents' files share. The registers of crc16_.. and crc32_.. come in and go out as they are: a 32-bit value starts with all ones and ends
+ * inverted. */
 #ifndef PARTS_H
 #define PARTS_H
 #include "side.h"
 #include <string.h>
 
-uint16_t crc16_table(const uint8_t *p, size_t n);
-uint16_t crc16_slices(const uint8_t *p, size_t n);
+uint16_t crc16_table(uint16_t c, const uint8_t *p, size_t n);
+uint16_t crc16_slices(uint16_t c, const uint8_t *p, size_t n);
 uint32_t crc32_table(uint32_t c, const uint8_t *p, size_t n);
 uint32_t crc32_slices(uint32_t c, const uint8_t *p, size_t n);
 

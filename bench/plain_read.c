@@ -42,7 +42,7 @@ uint64_t plain_mdu_read(const uint8_t *frame, size_t n, uint8_t *store, size_t s
             length = (size_t)store[2] << 8 | store[3];
             if (length < 1 || length > 1025) return 10;
         } else if (count > 6 && count == length + 8) {
-            uint16_t c = crc16_table(store + 6, length);
+            uint16_t c = crc16_table(0, store + 6, length);
             if (store[6 + length] != c >> 8 || store[7 + length] != (c & 255)) return 8;
             if (i + 1 != n || noise) return 6;
             return (uint64_t)length << 8 | (uint64_t)store[4] << 24;

@@ -21,7 +21,7 @@ int32_t plain_mdu_write(uint8_t address, const uint8_t *body, size_t n, uint8_t 
     out[0] = 0xE3; out[1] = 1; out[2] = (uint8_t)(n >> 8); out[3] = n & 255; out[4] = address;
     out[5] = (uint8_t)(out[0] + out[1] + out[2] + out[3] + out[4]);
     for (size_t i = 0; i < n; i++) out[6 + i] = body[i];
-    uint16_t c = crc16_table(body, n);
+    uint16_t c = crc16_table(0, body, n);
     out[6 + n] = (uint8_t)(c >> 8); out[7 + n] = c & 255;
     return (int32_t)(n + 8);
 }

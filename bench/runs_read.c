@@ -43,7 +43,7 @@ uint64_t runs_mdu_read(const uint8_t *frame, size_t n, uint8_t *store, size_t si
     if (length < 1 || length > 1025) return 10;
     memcpy(store + 6, p + 6, least(there, length + 8) - 6);
     if (there < length + 8) return 6;
-    uint16_t c = crc16_slices(p + 6, length);
+    uint16_t c = crc16_slices(0, p + 6, length);
     if (p[6 + length] != c >> 8 || p[7 + length] != (c & 255)) return 8;
     if (there != length + 8 || p != frame) return 6;
     return (uint64_t)length << 8 | (uint64_t)p[4] << 24;

@@ -22,7 +22,7 @@ int32_t runs_mdu_write(uint8_t address, const uint8_t *body, size_t n, uint8_t *
     uint8_t head[6] = {0xE3, 1, high, low, address, (uint8_t)(0xE3 + 1 + high + low + address)};
     memcpy(out, head, 6);
     memcpy(out + 6, body, n);
-    uint16_t c = crc16_slices(body, n);
+    uint16_t c = crc16_slices(0, body, n);
     out[6 + n] = (uint8_t)(c >> 8); out[7 + n] = c & 255;
     return (int32_t)(n + 8);
 }

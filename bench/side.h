@@ -8,7 +8,7 @@
 
 struct side {
     const char *way;
-    uint16_t (*crc16)(const uint8_t *bytes, size_t n);
+    uint16_t (*crc16)(uint16_t start, const uint8_t *bytes, size_t n);
     uint32_t (*crc32)(const uint8_t *bytes, size_t n);
     uint8_t (*sum)(const uint8_t *bytes, size_t n);
     size_t (*pack)(const uint8_t *data, size_t n, uint8_t *out, size_t room);               /* 0: no room */

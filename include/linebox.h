@@ -1,5 +1,5 @@
 /*
- * linebox: frames of four serial links, written and read.
+ * linebox: frames of four serial links, written and read, and a check value that is carried on block by block.
  *
  *   PCS        boards on one bus; 253 .. 254, data packed into seven bits a byte, one sum byte
  *   MDU        E3 01 with a stated length, a header sum and a 16-bit CRC
@@ -15,8 +15,9 @@
  * argument. The other runs of bytes are only read: while the call lasts others may read them too, but nothing writes them.
  * A length of 0 takes any pointer, NULL too; with any other length the pointer is to that many bytes.
  *
- * Single numbers are bytes. A byte that a link does not allow is refused by the call. A larger number that C is given for
- * such a parameter is cut to its lowest eight bits by the language, before the call: test it first where that can happen.
+ * Single numbers are bytes, but for a check value, which has 16 bits and may be any. A byte that a link does not allow is
+ * refused by the call. A larger number that C is given for such a parameter is cut to its lowest eight bits, a check value's
+ * to its lowest sixteen, by the language, before the call: test it first where that can happen.
  */
 #ifndef LINEBOX_H
 #define LINEBOX_H
@@ -31,7 +32,7 @@ extern "C" {
 /* The version of this interface: 1,000 times the major number, and the minor one. The minor number grows with what is added
  * here, the major one when something that stood here changes: a number, a name, or what a call answers or leaves for some
  * arguments. The library carries no number of its own: link the one that was built beside this header. */
-#define LINEBOX_VERSION 1000
+#define LINEBOX_VERSION 1001
 
 /* ---- Refusals: why a call was not done. 0 is no refusal. */
 enum {
@@ -186,6 +187,23 @@ static inline uint8_t linebox_expansion_id(uint64_t r) { return linebox_field(r,
 static inline uint8_t linebox_expansion_type(uint64_t r) { return linebox_field(r, 1); }
 static inline uint8_t linebox_expansion_repeat(uint64_t r) { return linebox_field(r, 2); }
 static inline uint8_t linebox_expansion_address(uint64_t r) { return linebox_field(r, 3); }
+
+/* ---- The 16-bit check value, MDU's CRC (A001, reflected), carried on from a value already reached
+ *
+ * Answers the value after `len` bytes when `start` is the value before them; with a length of 0 that is `start` itself. It
+ * refuses nothing, and writes nothing. A run that comes in blocks takes one call a block: the first from the start of the whole
+ * run, each of the others from what the call before it answered.
+ *
+ *     uint8_t block[256];
+ *     uint16_t value = 0;
+ *     size_t n;
+ *     while ((n = fread(block, 1, sizeof block, file)) > 0) value = linebox_crc16(value, block, n);
+ *
+ * However the run is cut, with empty blocks or without, the last value is that of one call on the whole run from the same
+ * start. On MDU the start is 0, and the run is the body: the value stands behind it in the frame, high byte first. A writer or
+ * a read of a frame works it out by itself and needs no call of this.
+ */
+uint16_t linebox_crc16(uint16_t start, const uint8_t *bytes, size_t len);
 
 #ifdef __cplusplus
 }

@@ -1,4 +1,4 @@
-/* The C interface as a host uses it: each link is written and read back, each rule of the header is tried, and what fails is printed. */
+/* The C interface as a host uses it: each link is written and read back, a check value carried on, each rule of the header tried; what fails is printed. */
 #include "linebox.h"
 
 #include <stdio.h>
@@ -319,6 +319,38 @@ static void left_in_the_store(void) {
     CHECK(linebox_expansion_read(codes, sizeof codes, store, sizeof store) == LINEBOX_WRONG_CODE && holds(store, gathered, 2, sizeof store));
 }
 
+/* the published values of 123456789: from 0, and from FFFF as Modbus starts */
+static void check_value(void) {
+    static const uint8_t digits[] = {'1', '2', '3', '4', '5', '6', '7', '8', '9'};
+    CHECK(linebox_crc16(0, digits, 9) == 0xBB3D && linebox_crc16(0xFFFF, digits, 9) == 0x4B37);
+    CHECK(linebox_crc16(0, body, 1) == 0xD4C1); /* as behind the body of mdu_frame */
+    /* no bytes leave the start, whatever the pointer */
+    CHECK(linebox_crc16(0, NULL, 0) == 0 && linebox_crc16(0xD4C1, NULL, 0) == 0xD4C1 && linebox_crc16(0xFFFF, digits, 0) == 0xFFFF);
+    /* three blocks, cut anywhere, empty ones too */
+    for (size_t i = 0; i <= 9; i++)
+        for (size_t j = i; j <= 9; j++) {
+            uint16_t value = linebox_crc16(0xFFFF, digits, i);
+            value = linebox_crc16(value, digits + i, j - i);
+            CHECK(linebox_crc16(value, digits + j, 9 - j) == 0x4B37);
+        }
+}
+
+/* the loop of the header: a file with the longest body of an MDU frame, read in blocks, has the value that the frame carries */
+static void check_value_by_blocks(void) {
+    FILE *file = tmpfile();
+    CHECK(file != NULL);
+    if (file == NULL) return;
+    CHECK(fwrite(data, 1, 1025, file) == 1025);
+    rewind(file);
+    uint8_t block[256];
+    uint16_t value = 0;
+    size_t n;
+    while ((n = fread(block, 1, sizeof block, file)) > 0) value = linebox_crc16(value, block, n);
+    fclose(file);
+    CHECK(value == linebox_crc16(0, data, 1025));
+    CHECK(linebox_mdu_write(1, data, 1025, out, sizeof out) == 1033 && out[1031] == value >> 8 && out[1032] == (value & 0xFF));
+}
+
 int main(void) {
     for (size_t i = 0; i < sizeof data; i++) data[i] = CAST(uint8_t, 7 * i + i / 256);
     pcs_reads_back();
@@ -335,6 +367,8 @@ int main(void) {
     expansion_refused();
     longest_frames();
     left_in_the_store();
+    check_value();
+    check_value_by_blocks();
     if (failures) {
         printf("%d failed\n", failures);
         return 1;

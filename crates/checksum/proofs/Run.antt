@@ -1,6 +1,6 @@
 -- The register after a run in parts, for any register constant p: two parts, some bytes more, all bits at once.
 use mathlib.Core.Path.{_≡_, refl, sym, ap, ap₂, _∙_}
-use mathlib.Core.List.{List, [], _∷_, _++_}
+use mathlib.Core.List.{List, [], _∷_, _++_, foldl, flatten}
 use Prim.Native.Nat.{ℕ, suc, _+_, _*_, _-_, _^_, _≤_, _<_}
 use native.Mathlib.Omega.{arith}
 use lib.Bits.{bitXor, xor-zero-r, xor-comm, xor-shifted}
@@ -9,8 +9,9 @@ use lib.Seq.{drop-drop, length-take-le}
 use Rattle.runs.proofs.Bytes.{drop-next, part-rest, bytes-take, bytes-drop}
 use Rattle.runs.specs.Runs.{Bytes}
 use Rattle.runs.specs.Number.{littleEndian}
-use Rattle.checksum.specs.Crc.{shifts, byteStep, run, crc16Of, crc32Of}
+use Rattle.checksum.specs.Crc.{shifts, byteStep, run, crc32Of}
 use Rattle.checksum.specs.Tables.{AfterBytes}
+use Rattle.checksum.specs.Claims.{CarriedOn}
 use Rattle.checksum.proofs.Xor.{xor-undo, xor-assoc}
 use Rattle.checksum.proofs.Linear.{shifts-add, shifts-sum, shifts-zeros}
 
@@ -23,11 +24,16 @@ run-append p c (b ∷ u) v = run-append p (byteStep p c b) u v
 pub run-joined : (p s : ℕ) (u v : List ℕ) {c d : ℕ} → c ≡ run p s u → d ≡ run p c v → d ≡ run p s (u ++ v)
 run-joined p s u v q e = e ∙ ap (λ (x : ℕ). run p x v) q ∙ sym (run-append p s u v)
 
--- carrying on over v from the 16-bit value of u gives the value of u and v joined
-pub crc16-append : (u v : List ℕ) → run 0xA001 (crc16Of u) v ≡ crc16Of (u ++ v)
-crc16-append u v = sym (run-append 0xA001 0 u v)
+-- any blocks one after the other are one pass over them joined
+run-blocks : (p c : ℕ) (blocks : List (List ℕ)) → foldl (run p) c blocks ≡ run p c (flatten blocks)
+unfolding run flatten
+run-blocks p c [] = refl
+run-blocks p c (u ∷ blocks) = run-blocks p (run p c u) blocks ∙ sym (run-append p c u (flatten blocks))
 
--- the same at 32 bits, where the final xor of the value of u is taken back first
+pub carried-on : CarriedOn
+carried-on = run-blocks 0xA001
+
+-- at 32 bits a value is carried on over v once the final xor of the value of u is taken back
 pub crc32-append : (u v : List ℕ)
     → bitXor (run 0xEDB88320 (bitXor (crc32Of u) (2 ^ 32 - 1)) v) (2 ^ 32 - 1) ≡ crc32Of (u ++ v)
 crc32-append u v =

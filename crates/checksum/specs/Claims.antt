@@ -1,11 +1,12 @@
--- What is claimed of check values beyond the contracts of the functions. proofs/CheckValue.antt proves each claim.
+-- What is claimed of check values beyond the contracts of the functions. proofs/CheckValue.antt proves which damage shows,
+-- proofs/Run.antt that a value can be carried on.
 use Prim.Native.Nat.{ℕ, _+_, _*_, _-_, _^_, _≤_, _<_}
 use mathlib.Core.Path.{_≡_}
 use mathlib.Core.Logic.{_≢_}
-use mathlib.Core.List.{List}
+use mathlib.Core.List.{List, foldl, flatten}
 use lib.ListN.{length, getElem?}
 use Rattle.runs.specs.Runs.{Bytes}
-use Rattle.checksum.specs.Crc.{run, crc16Of, crc32Of}
+use Rattle.checksum.specs.Crc.{run, crc16From, crc16Of, crc32Of}
 
 -- outside the n bytes from some place k on, the two runs hold the same
 pub record DifferWithin (n : ℕ) (u v : List ℕ) : Type 0 where
@@ -29,3 +30,8 @@ Crc16Detects = Detects 2 crc16Of
 -- the CRC of the expansion link detects four bytes
 abbrev pub Crc32Detects : Type 0
 Crc32Detects = Detects 4 crc32Of
+
+-- a value can be carried on: blocks one after the other, the first from the start, each of the others from the value reached before it, give
+-- what one pass over the blocks joined gives
+abbrev pub CarriedOn : Type 0
+CarriedOn = (start : ℕ) (blocks : List (List ℕ)) → foldl crc16From start blocks ≡ crc16From start (flatten blocks)

@@ -21,9 +21,13 @@ unfoldable pub run : ℕ → ℕ → List ℕ → ℕ
 run p c [] = c
 run p c (b ∷ bs) = run p (byteStep p c b) bs
 
--- the CRC of MDU: x^16 + x^15 + x^2 + 1, reflected, start 0
+-- the 16-bit CRC: x^16 + x^15 + x^2 + 1, reflected, from a start; after no bytes it is the start
+abbrev pub crc16From : ℕ → List ℕ → ℕ
+crc16From start bs = run 0xA001 start bs
+
+-- the CRC of MDU: start 0
 abbrev pub crc16Of : List ℕ → ℕ
-crc16Of bs = run 0xA001 0 bs
+crc16Of bs = crc16From 0 bs
 
 -- the CRC of the expansion link: 04C11DB7, reflected, start and final xor all ones
 abbrev pub crc32Of : List ℕ → ℕ

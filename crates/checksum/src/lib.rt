@@ -11,7 +11,7 @@ ghost use mathlib.Core.List.{_++_};
 ghost use Prim.Native.Nat.{ℕ, _+_, _*_, _-_, _/_, _%_, _^_, _≤_, _<_};
 ghost use lib.ListN.{length, take, drop};
 ghost use Rattle.runs.specs.Number.{littleEndian};
-ghost use Rattle.checksum.specs.Crc.{shifts, run, crc16Of, crc32Of};
+ghost use Rattle.checksum.specs.Crc.{shifts, run, crc16From, crc32Of};
 ghost use Rattle.checksum.specs.Tables.{NibbleTable, BraidTable, AfterBytes, AfterWords};
 ghost use Rattle.checksum.specs.Braids.{registersOf, StandsFor, Braided};
 ghost use Rattle.checksum.specs.Sum.{totalOf, lowered, sumOf};
@@ -252,12 +252,12 @@ fn after32(table: &[u32; 128], start: u32, bytes: &[u8]) -> u32
     }
 }
 
-// The CRC of MDU, of these bytes.
-pub fn crc16(bytes: &[u8]) -> u16
-    ensures { λ r. ⌜ r ≡ crc16Of (now (bytes .entry)) ⌝ }
+// The 16-bit CRC of these bytes, from a start: 0 on MDU, or the value that the bytes before them have reached.
+pub fn crc16(start: u16, bytes: &[u8]) -> u16
+    ensures { λ r. ⌜ r ≡ crc16From start (now (bytes .entry)) ⌝ }
 {
     let table = table16();
-    after16(&table, 0, bytes) as u16
+    after16(&table, start as u32, bytes) as u16
 }
 
 // The CRC of the expansion link, of these bytes.

@@ -3,6 +3,7 @@ use framing::Answer;
 use framing::refusal;
 ghost use mathlib.Core.Path.{_≡_};
 ghost use mathlib.Core.List.{[], _∷_};
+ghost use Rattle.checksum.specs.Crc.{crc16From};
 ghost use Rattle.framing.specs.Answer.{outcomeOf};
 ghost use Rattle.framing.specs.Whole.{settle, exactly};
 ghost use Rattle.pcs.specs.Contract as Pcs;
@@ -239,4 +240,12 @@ pub extern "C" fn linebox_expansion_read(frame: &[u8], store: &mut [u8]) -> u64
     let got = expansion::receive(framing::fresh(), store, frame);
     let event = got.event;
     encode_expansion(event, is_exact(frame.len(), got.used, got.state.noise))
+}
+
+// Carries the 16-bit check value on over a block.
+#[no_mangle]
+pub extern "C" fn linebox_crc16(start: u16, bytes: &[u8]) -> u16
+    ensures { λ r. ⌜ r ≡ crc16From start (now (bytes .entry)) ⌝ }
+{
+    checksum::crc16(start, bytes)
 }

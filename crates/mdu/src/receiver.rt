@@ -175,7 +175,7 @@ fn finish_frame(store: &[u8], stated: usize) -> Event
     ensures { λ r. ⌜ toldOf r ≡ told link (eventOf (some (finish stated (take (8 + stated) (now (store .entry)))))) ⌝ }
 {
     let end = 6 + stated;
-    let check = checksum::crc16(&store[6..end]);
+    let check = checksum::crc16(0, &store[6..end]);
     if joined(store[end], store[end + 1]) == check as usize {
         Event::Accepted(Message {
             address: store[4],

@@ -56,7 +56,7 @@ pub(crate) fn put_frame(address: u8, body: &[u8], out: &mut [u8])
     ensures { λ r. ⌜ now (out .exit) ≡ sets (now (out .entry)) 0 (frame (record { address = address; body = now (body .entry) })) ⌝ }
 {
     let n = body.len();
-    let check = checksum::crc16(body);
+    let check = checksum::crc16(0, body);
     put_header(out, n as u16, address);
     put_bytes(out, 6, body);
     put_check(out, 6 + n, check);

@@ -1,11 +1,10 @@
-// Check values, and the examples of 01 that are neither frames of a section nor records.
+// Check values, the 16-bit one also by the host's call from a start, and the examples of 01 that are neither frames of a section nor records.
 use framing::Answer;
 use vector_text::memory;
 use vector_text::print;
 use vector_text::words;
 
-fn crc16(bytes: &[u8]) {
-    let value = checksum::crc16(bytes);
+fn show_crc16(value: u16) {
     print::hex(&[(value / 256) as u8, (value % 256) as u8]);
 }
 
@@ -55,7 +54,7 @@ fn dle_frame(sequence: u8, node: u8, bytes: &[u8]) {
 
 fn run_on_bytes(line: &[u8], bytes: &[u8]) {
     if words::is(line, 0, b"crc16") {
-        crc16(bytes);
+        show_crc16(checksum::crc16(0, bytes));
     }
     if words::is(line, 0, b"crc32") {
         crc32(bytes);
@@ -76,6 +75,9 @@ pub(crate) fn run(line: &[u8]) {
     if words::is(line, 0, b"dle-frame") {
         let n = words::bytes(line, 3, b"", &mut bytes);
         dle_frame(words::byte(line, 1), words::byte(line, 2), &bytes[..n]);
+    } else if words::is(line, 0, b"crc16-from") {
+        let n = words::bytes(line, 2, b"", &mut bytes);
+        show_crc16(host::linebox_crc16(words::number16(line, 1), &bytes[..n]));
     } else {
         let n = words::bytes(line, 1, b"", &mut bytes);
         run_on_bytes(line, &bytes[..n]);

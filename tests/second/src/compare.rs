@@ -1,7 +1,8 @@
-//! Compares the nine functions of the C interface with this implementation over
+//! Compares the ten functions of the C interface with this implementation over
 //! generated calls: the answer, every byte of lent memory and of a canary on
 //! both sides of it, and that the input bytes stay as they were.
 
+use crate::crc;
 use crate::dle::{self, Dle};
 use crate::expansion::{self, Expansion};
 use crate::gen::{self, Wire, Xorshift};
@@ -24,6 +25,7 @@ pub trait Host {
     fn mdu_read(&self, frame: &[u8], store: &mut [u8]) -> u64;
     fn dle_read(&self, frame: &[u8], store: &mut [u8]) -> u64;
     fn expansion_read(&self, frame: &[u8], store: &mut [u8]) -> u64;
+    fn crc16(&self, start: u16, bytes: &[u8]) -> u16;
 }
 
 /// A writer's answer in C: a length, or a refusal as a negative number.
@@ -65,6 +67,9 @@ impl Host for Own {
     fn expansion_read(&self, frame: &[u8], store: &mut [u8]) -> u64 {
         whole::read::<Expansion>(frame, store)
     }
+    fn crc16(&self, start: u16, bytes: &[u8]) -> u16 {
+        crc::crc16(start, bytes)
+    }
 }
 
 /// The static library, through its C interface.
@@ -89,6 +94,7 @@ pub mod linked {
         fn linebox_mdu_read(frame: *const u8, frame_len: usize, store: *mut u8, store_len: usize) -> u64;
         fn linebox_dle_read(frame: *const u8, frame_len: usize, store: *mut u8, store_len: usize) -> u64;
         fn linebox_expansion_read(frame: *const u8, frame_len: usize, store: *mut u8, store_len: usize) -> u64;
+        fn linebox_crc16(start: u16, bytes: *const u8, len: usize) -> u16;
     }
 
     pub struct Linked;
@@ -130,6 +136,9 @@ pub mod linked {
         fn expansion_read(&self, frame: &[u8], store: &mut [u8]) -> u64 {
             unsafe { linebox_expansion_read(frame.as_ptr(), frame.len(), store.as_mut_ptr(), store.len()) }
         }
+        fn crc16(&self, start: u16, bytes: &[u8]) -> u16 {
+            unsafe { linebox_crc16(start, bytes.as_ptr(), bytes.len()) }
+        }
     }
 }
 
@@ -139,7 +148,7 @@ struct Function {
     refusals: &'static [u8],
 }
 
-const FUNCTIONS: [Function; 9] = [
+const FUNCTIONS: [Function; 10] = [
     Function { name: "linebox_pcs_write", refusals: &[2, 3] },
     Function { name: "linebox_mdu_write", refusals: &[2, 3] },
     Function { name: "linebox_dle_write", refusals: &[2, 3] },
@@ -149,10 +158,13 @@ const FUNCTIONS: [Function; 9] = [
     Function { name: "linebox_mdu_read", refusals: &[1, 6, 8, 9, 10] },
     Function { name: "linebox_dle_read", refusals: &[1, 4, 5, 6, 7, 10] },
     Function { name: "linebox_expansion_read", refusals: &[1, 4, 5, 6, 7, 8, 9] },
+    Function { name: "linebox_crc16", refusals: &[] },
 ];
 
 /// One call: which function, its single numbers, its input bytes and how much
-/// memory (output or store) it is lent.
+/// memory (output or store) it is lent. The numbers of the check are the two bytes
+/// of its start and then the lengths of blocks, in which the input is gone through
+/// besides.
 struct Call {
     function: usize,
     numbers: Vec<u8>,
@@ -164,6 +176,8 @@ struct Call {
 enum Answer {
     Writer(i32),
     Read(u64),
+    /// In one pass, and carried on over the blocks.
+    Check(u16, u16),
 }
 
 impl Answer {
@@ -173,8 +187,20 @@ impl Answer {
             Answer::Writer(number) if number < 0 => number.unsigned_abs() as u64,
             Answer::Writer(_) => 0,
             Answer::Read(bits) => bits & 255,
+            Answer::Check(..) => 0,
         }
     }
+}
+
+/// Block by block, what is left behind the last length as one more.
+fn carried(host: &dyn Host, start: u16, lengths: &[u8], bytes: &[u8]) -> u16 {
+    let (mut value, mut rest) = (start, bytes);
+    for length in lengths {
+        let (block, behind) = rest.split_at(rest.len().min(*length as usize));
+        value = host.crc16(value, block);
+        rest = behind;
+    }
+    host.crc16(value, rest)
 }
 
 impl Call {
@@ -189,7 +215,11 @@ impl Call {
             5 => Answer::Read(host.pcs_read(input, lent)),
             6 => Answer::Read(host.mdu_read(input, lent)),
             7 => Answer::Read(host.dle_read(input, lent)),
-            _ => Answer::Read(host.expansion_read(input, lent)),
+            8 => Answer::Read(host.expansion_read(input, lent)),
+            _ => {
+                let start = u16::from_be_bytes([n[0], n[1]]);
+                Answer::Check(host.crc16(start, input), carried(host, start, &n[2..], input))
+            }
         }
     }
 }
@@ -292,6 +322,15 @@ fn read_call(random: &mut Xorshift, function: usize) -> Call {
     Call { function, numbers: Vec::new(), input: gen::run(random, wire), lent }
 }
 
+fn check_call(random: &mut Xorshift, function: usize) -> Call {
+    let mut numbers = gen::start(random).to_be_bytes().to_vec();
+    for _ in 0..random.below(5) {
+        numbers.push(gen::edge(random));
+    }
+    let length = gen::data_length(random);
+    Call { function, numbers, input: gen::contents(random, length), lent: 0 }
+}
+
 const GUARD: usize = 32;
 
 /// A run of memory with a canary of `GUARD` bytes on both sides.
@@ -310,7 +349,7 @@ fn inside(memory: &mut [u8]) -> &mut [u8] {
 }
 
 /// What a comparison found: counts of each answer, by function and number.
-pub struct Counts([[u64; 19]; 9]);
+pub struct Counts([[u64; 19]; FUNCTIONS.len()]);
 
 /// What a call left: the answer, the memory and the input, each with its canary.
 #[derive(PartialEq)]
@@ -350,14 +389,18 @@ fn difference(call: &Call, canary: &[u8], got: &Left, expected: &Left) -> String
 /// Compares `count` generated calls; the text of the first difference otherwise.
 pub fn compare(host: &dyn Host, seed: u64, count: u64) -> Result<Counts, String> {
     let mut random = Xorshift::new(seed);
-    let mut counts = Counts([[0; 19]; 9]);
+    let mut counts = Counts([[0; 19]; FUNCTIONS.len()]);
     for number in 0..count {
         // Reads have more to show than writers.
-        let function = match number % 13 {
-            0..=8 => (number % 13) as usize,
-            more => (more - 4) as usize,
+        let function = match number % 14 {
+            0..=9 => (number % 14) as usize,
+            more => (more - 5) as usize,
         };
-        let call = if function < 5 { writer_call(&mut random, function) } else { read_call(&mut random, function) };
+        let call = match function {
+            0..=4 => writer_call(&mut random, function),
+            5..=8 => read_call(&mut random, function),
+            _ => check_call(&mut random, function),
+        };
         let mut input = guarded(&mut random, call.input.len());
         inside(&mut input).copy_from_slice(&call.input);
         let canary = guarded(&mut random, call.lent);
@@ -486,11 +529,20 @@ mod tests {
             }
             Own.expansion_read(frame, store)
         }
+        fn crc16(&self, start: u16, bytes: &[u8]) -> u16 {
+            match self.0 {
+                10 => Own.crc16(0, bytes),         // each block from 0
+                11 => Own.crc16(0, bytes) ^ start, // the start xored in at the end
+                12 if bytes.is_empty() => 0,
+                13 if bytes.len() >= 96 => Own.crc16(start & 0xFF, bytes),
+                _ => Own.crc16(start, bytes),
+            }
+        }
     }
 
     #[test]
     fn each_wrong_answer_is_found() {
-        for wrong in 0..10 {
+        for wrong in 0..14 {
             assert!(compare(&Wrong(wrong), 1, 40_000).is_err(), "wrong answer {wrong} was not found");
         }
         assert!(compare(&Wrong(255), 1, 4000).is_ok());

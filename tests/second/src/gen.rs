@@ -75,6 +75,15 @@ pub fn edge(random: &mut Xorshift) -> u8 {
     }
 }
 
+/// A value that a 16-bit check starts from: 0, one at an edge, or any.
+pub fn start(random: &mut Xorshift) -> u16 {
+    match random.below(4) {
+        0 => 0,
+        1 => random.pick(&[1, 0xFF, 0x100, 0x7FFF, 0x8000, 0xA001, 0xFFFF]),
+        _ => random.next() as u16,
+    }
+}
+
 /// A byte from `least` to `most`, often one of the two.
 pub fn between(random: &mut Xorshift, least: u8, most: u8) -> u8 {
     match random.below(4) {
@@ -189,7 +198,7 @@ pub fn close(wire: Wire, content: &[u8]) -> Vec<u8> {
         }
         Wire::Mdu => {
             frame.extend(content);
-            let check = crc::crc16(content.get(6..).unwrap_or(&[]));
+            let check = crc::crc16(0, content.get(6..).unwrap_or(&[]));
             frame.extend(check.to_be_bytes());
         }
         Wire::Dle => {

@@ -1,4 +1,4 @@
-//! Second implementation of linebox, written from document 01 and the readings noted in docs/DECISIONS.md, not from the crates.
+//! Second implementation of linebox, written from documents 01 and 02 and the readings noted in docs/DECISIONS.md, not from the crates.
 //! See README.md for how to run each part.
 
 mod captures;

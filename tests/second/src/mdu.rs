@@ -36,7 +36,7 @@ pub fn frame(address: u8, body: &[u8]) -> Result<Vec<u8>, u8> {
     let header_sum = sum::modulo_256(&frame);
     frame.push(header_sum);
     frame.extend(body);
-    let check = crc::crc16(body);
+    let check = crc::crc16(0, body);
     frame.push((check >> 8) as u8);
     frame.push((check & 255) as u8);
     Ok(frame)
@@ -65,7 +65,7 @@ fn judge_header(header: &[u8]) -> Result<u64, u8> {
 /// The test at the last byte.
 fn judge_body(store: &[u8], length: usize) -> Result<Message, u8> {
     let check = store[6 + length] as u16 * 256 + store[7 + length] as u16;
-    if crc::crc16(&store[6..6 + length]) != check {
+    if crc::crc16(0, &store[6..6 + length]) != check {
         return Err(8);
     }
     Ok(Message { address: store[4], length })

@@ -21,6 +21,7 @@
 //! Check values (section `crc`)
 //!     crc16 BYTES | VALUE                 in hex, high byte first
 //!     crc32 BYTES | VALUE
+//!     crc16-from START BYTES | VALUE      by the host's call, from the value START
 //!
 //! 01's examples (section `examples`), number N
 //!     example N sum BYTES | VALUE         decimal; the next three in hex

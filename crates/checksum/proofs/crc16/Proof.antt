@@ -1,18 +1,20 @@
 use borrow.Author.Needs.{needs}
 use mathlib.Core.Path.{_≡_}
 use native.Mathlib.Omega.{arith}
-use Rattle.checksum.specs.Crc.{crc16Of}
-use Rattle.checksum.proofs.CheckValue.{crc16-lt}
+use Rattle.checksum.specs.Crc.{crc16From}
+use Rattle.checksum.proofs.CheckValue.{crc16-from-lt}
 use Rattle.checksum.proofs.crc16.Statement.{statement}
 use Rattle.checksum.proofs.crc16.Tie as tie
 
-value : (c : tie.After-after16) → c .after16 .result ≡ crc16Of (c .before .before .before .before .args .bytes .now)
+value : (c : tie.After-after16) →
+    let s = c .before .before .before .before in
+    c .after16 .result ≡ crc16From (s .args .start) (s .args .bytes .now)
 value c = c .after16 .ensures (c .before .before .table16 .ensures)
 
 cast-result : tie.Need-cast-result
 cast-result c =
     let s = c .before .before .before in
-    omega (arith, value c, crc16-lt (s .before .args .bytes .now) (λ i. s .shared-slice-known .given i .fits))
+    omega (arith, value c, crc16-from-lt (s .before .args .bytes .now) (s .before .fits .start .fits) (λ i. s .shared-slice-known .given i .fits))
 
 returns : tie.Need-returns
 returns c = value c

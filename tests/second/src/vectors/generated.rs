@@ -1,9 +1,10 @@
-//! Generated lines for the programs of vectors: receivers with any state and store on
-//! cut pieces, records, and both ends of the gate exchange. Sequences are made from a
-//! seed, each of them beginning with what it sets, and are laid into files that a
-//! program can read whole: `PART-NAME-NNNNN.in` are the calls, `.out` what the
-//! program of that part has to print.
+//! Generated lines for the programs of vectors: the 16-bit check over blocks, receivers
+//! with any state and store on cut pieces, records, and both ends of the gate exchange.
+//! Sequences are made from a seed, each of them beginning with what it sets, and are laid
+//! into files that a program can read whole: `PART-NAME-NNNNN.in` are the calls, `.out`
+//! what the program of that part has to print.
 
+mod blocks;
 mod exchange;
 mod receivers;
 mod records;
@@ -87,7 +88,8 @@ pub fn generate(folder: &Path, seed: u64, count: usize) -> io::Result<Tally> {
     links::<Mdu>(&mut Files::new(folder, "links", "mdu", &mut tally), &mut random, Wire::Mdu, count)?;
     links::<Dle>(&mut Files::new(folder, "links", "dle", &mut tally), &mut random, Wire::Dle, count)?;
     links::<Expansion>(&mut Files::new(folder, "links", "expansion", &mut tally), &mut random, Wire::Expansion, count)?;
-    let sorts: [(&str, &str, fn(&mut Xorshift) -> Lines); 5] = [
+    let sorts: [(&str, &str, fn(&mut Xorshift) -> Lines); 6] = [
+        ("values", "crc", blocks::carried),
         ("records", "reading", records::read),
         ("records", "making", records::made),
         ("gate", "asking", exchange::asking),
@@ -139,7 +141,7 @@ mod tests {
             }
             files += 1;
         }
-        assert!(files >= 18);
+        assert!(files >= 20);
         fs::remove_dir_all(&one).unwrap();
         fs::remove_dir_all(&two).unwrap();
     }

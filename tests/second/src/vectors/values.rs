@@ -1,7 +1,7 @@
 //! The published check values, and 01's examples.
 
 use super::pcs::summed;
-use super::text::{bytes_word, run, section, value_word, Lines};
+use super::text::{bytes_word, given, given_run, run, section, value_word, Given, Lines};
 use super::Part;
 use crate::crc;
 use crate::dle;
@@ -12,8 +12,45 @@ use crate::record;
 use crate::sum;
 
 fn crc_lines(lines: &mut Lines, word: &str, bytes: &[u8]) {
-    lines.add(&format!("crc16 {word}"), &hex(&crc::crc16(bytes).to_be_bytes()));
+    lines.add(&format!("crc16 {word}"), &hex(&crc::crc16(0, bytes).to_be_bytes()));
     lines.add(&format!("crc32 {word}"), &hex(&crc::crc32(bytes).to_be_bytes()));
+}
+
+/// Answers the value, which the next block can start from.
+pub fn crc16_from_line(lines: &mut Lines, start: u16, given: &Given) -> u16 {
+    let value = crc::crc16(start, &given.bytes);
+    lines.add(&format!("crc16-from {start} {}", given.word), &hex(&value.to_be_bytes()));
+    value
+}
+
+/// A run in blocks, each from the value of the one before it, and then in one pass.
+pub fn blocks_lines(lines: &mut Lines, start: u16, blocks: &[Vec<u8>]) {
+    let mut value = start;
+    for block in blocks {
+        value = crc16_from_line(lines, value, &given(block));
+    }
+    assert_eq!(crc16_from_line(lines, start, &given(&blocks.concat())), value);
+}
+
+/// Starts that are ignored, xored in at the end or not carried on show; so do short and long runs.
+fn crc16_from_lines(lines: &mut Lines) {
+    for start in [0, 1, 0x8000, 0xA001, 0xFFFF] {
+        for bytes in [&b"123456789"[..], &[], &[0x00], &[0x80], &[0xFF, 0xFF]] {
+            crc16_from_line(lines, start, &given(bytes));
+        }
+        for length in [4, 95, 96, 97, 1024, 1028] {
+            crc16_from_line(lines, start, &given_run(length));
+        }
+    }
+    for cut in 0..=9 {
+        blocks_lines(lines, 0, &[b"123456789"[..cut].to_vec(), Vec::new(), b"123456789"[cut..].to_vec()]);
+    }
+    let body = run(1025);
+    for size in [1, 95, 96, 256, 1024] {
+        let from = if size == 1 { 1000 } else { 0 };
+        let blocks: Vec<Vec<u8>> = body[from..].chunks(size).map(<[u8]>::to_vec).collect();
+        blocks_lines(lines, 0xD4C1, &blocks);
+    }
 }
 
 pub fn crc_section() -> Lines {
@@ -24,12 +61,13 @@ pub fn crc_section() -> Lines {
     for length in [1024, 1028] {
         crc_lines(&mut lines, &format!("run{length}"), &run(length));
     }
+    crc16_from_lines(&mut lines);
     lines
 }
 
 pub fn examples_section(part: Part) -> Lines {
     let sum = |bytes: &[u8]| (format!("sum {}", hex(bytes)), sum::pcs(bytes).to_string());
-    let crc16 = |bytes: &[u8]| (format!("crc16 {}", hex(bytes)), hex(&crc::crc16(bytes).to_be_bytes()));
+    let crc16 = |bytes: &[u8]| (format!("crc16 {}", hex(bytes)), hex(&crc::crc16(0, bytes).to_be_bytes()));
     let packed = [42, 87, 81, 81, 128, 128, 128, 108];
     let data = [0x64, 0x96];
     let marks = [0xFD, 0xFE, 0xFF];

@@ -74,7 +74,7 @@ fn gathered(random: &mut Xorshift, wire: Wire) -> Vec<u8> {
     }
     match wire {
         Wire::Pcs => bytes.push(sum::pcs(&bytes)),
-        Wire::Mdu => bytes.extend(crc::crc16(bytes.get(6..).unwrap_or(&[])).to_be_bytes()),
+        Wire::Mdu => bytes.extend(crc::crc16(0, bytes.get(6..).unwrap_or(&[])).to_be_bytes()),
         Wire::Dle => {}
         Wire::Expansion => bytes.extend(crc::crc32(&bytes).to_le_bytes()),
     }

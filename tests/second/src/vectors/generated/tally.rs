@@ -5,7 +5,8 @@ use std::collections::BTreeMap;
 
 /// Each call with the answers that it can give: refusals by their number, others by
 /// their word. All have to be seen, and no other may be.
-const ANSWERS: [(&str, &str); 24] = [
+const ANSWERS: [(&str, &str); 25] = [
+    ("crc16-from", "value empty"),
     ("pcs receive", "nothing message 1 4 5 6 8 9 10 11 12 13"),
     ("mdu receive", "nothing message 1 8 9 10 12"),
     ("dle receive", "nothing message 1 4 5 6 7 10 12"),
@@ -44,13 +45,14 @@ fn call_name(section: &str, words: &[&str]) -> Option<String> {
             Some(format!("{} {}", words[0], words[1]))
         }
         ["copy" | "element" | "view-element" | "make", sign, ..] => Some(format!("{} {sign}", words[0])),
-        ["view" | "respond-refused" | "chain", ..] => Some(words[0].to_string()),
+        ["view" | "respond-refused" | "chain" | "crc16-from", ..] => Some(words[0].to_string()),
         _ => None,
     }
 }
 
-fn answer_name(words: &[&str]) -> String {
+fn answer_name(call: &[&str], words: &[&str]) -> String {
     let name = match words {
+        _ if call[0] == "crc16-from" => if call[2] == "-" { "empty" } else { "value" },
         ["used", _, "refused", number, ..] | ["refused", number, ..] => number,
         ["used", _, event, ..] => event,
         ["reply", "none", ..] => "silent",
@@ -68,7 +70,7 @@ impl Tally {
             let words: Vec<&str> = call.split(' ').collect();
             if let Some(name) = call_name(section, &words) {
                 let answer: Vec<&str> = line[call.len()..].split_whitespace().collect();
-                *self.0.entry((name, answer_name(&answer))).or_default() += 1;
+                *self.0.entry((name, answer_name(&words, &answer))).or_default() += 1;
             }
         }
     }
