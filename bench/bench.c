@@ -7,12 +7,13 @@
 #include <string.h>
 #include <zlib.h>
 
+uint16_t bench_crc16(uint16_t start, const uint8_t *p, size_t n);
 uint32_t bench_crc32(const uint8_t *p, size_t n);
 uint8_t bench_sum(const uint8_t *p, size_t n);
 size_t bench_pack(const uint8_t *data, size_t n, uint8_t *out, size_t room);
 size_t bench_unpack(uint8_t *store, size_t size, size_t from, size_t count);
 
-const struct side linebox = {"linebox", linebox_crc16, bench_crc32, bench_sum, bench_pack, bench_unpack, linebox_pcs_write, linebox_mdu_write,
+const struct side linebox = {"linebox", bench_crc16, bench_crc32, bench_sum, bench_pack, bench_unpack, linebox_pcs_write, linebox_mdu_write,
     linebox_dle_write, linebox_expansion_write, linebox_pcs_read, linebox_mdu_read, linebox_dle_read, linebox_expansion_read};
 
 static uint32_t zlib_crc32(const uint8_t *p, size_t n) { return (uint32_t)crc32(0, p, (uInt)n); }
@@ -46,10 +47,11 @@ WORK("MDU read", 0, mdu_read, s->mdu_read(p, n, store, size))
 WORK("DLE read", 0, dle_read, s->dle_read(p, n, store, size))
 WORK("expansion read", 0, expansion_read, s->expansion_read(p, n, store, size))
 
-/* A run in blocks, each from the value of the one before it. */
+/* A run in blocks, each from the value of the one before it; on linebox's side by the call of its C interface. */
 static uint64_t blocks_run(const struct side *s, const uint8_t *p, size_t n) {
+    uint16_t (*crc16)(uint16_t, const uint8_t *, size_t) = s == &linebox ? linebox_crc16 : s->crc16;
     uint16_t c = start;
-    for (size_t i = 0; i < n; i += block) c = s->crc16(c, p + i, n - i < block ? n - i : block);
+    for (size_t i = 0; i < n; i += block) c = crc16(c, p + i, n - i < block ? n - i : block);
     return c;
 }
 static const struct work blocks_work = {"CRC-16", 0, crc16_entry, blocks_run};
@@ -58,7 +60,9 @@ static uint64_t state = 88172645463325252u;
 static uint64_t next(void) { state ^= state << 13; state ^= state >> 7; state ^= state << 17; return state >> 16; }
 
 /* The inputs of a row, made of as many payloads: a branch predictor does not learn them by heart as it would one. */
-enum { INPUTS = 32, LONGEST = 2100, ANY = -1, NOISE = 65536, BODY = 8192 };
+enum { INPUTS = 32, LONGEST = 2100, ANY = -1, NOISE = 65536 };
+/* The run that is given in blocks: so long that its calls are not stepped through, which would count the first of them alone. */
+enum { BODY = 8192 };
 static uint8_t memory[INPUTS][LONGEST];
 static struct input inputs[INPUTS];
 

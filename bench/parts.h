@@ -1,5 +1,5 @@
-/* What the opponents' files share. The registers of crc16_.. and crc32_.. come in and go out as they are: a 32-bit value starts with all ones and ends
- * inverted. */
+/* What the opponents' files share. The registers of crc16_.. and crc32_.. come in and go out as they are: a 32-bit value starts with all ones and
+ * ends inverted. */
 #ifndef PARTS_H
 #define PARTS_H
 #include "side.h"

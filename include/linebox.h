@@ -16,8 +16,8 @@
  * A length of 0 takes any pointer, NULL too; with any other length the pointer is to that many bytes.
  *
  * Single numbers are bytes, but for a check value, which has 16 bits and may be any. A byte that a link does not allow is
- * refused by the call. A larger number that C is given for such a parameter is cut to its lowest eight bits, a check value's
- * to its lowest sixteen, by the language, before the call: test it first where that can happen.
+ * refused by the call. A larger number that C is given for a byte is cut to its lowest eight bits, one for a check value to
+ * its lowest sixteen, by the language, before the call: test it first where that can happen.
  */
 #ifndef LINEBOX_H
 #define LINEBOX_H
@@ -198,6 +198,7 @@ static inline uint8_t linebox_expansion_address(uint64_t r) { return linebox_fie
  *     uint16_t value = 0;
  *     size_t n;
  *     while ((n = fread(block, 1, sizeof block, file)) > 0) value = linebox_crc16(value, block, n);
+ *     if (ferror(file)) ... the value is that of a part of the file
  *
  * However the run is cut, with empty blocks or without, the last value is that of one call on the whole run from the same
  * start. On MDU the start is 0, and the run is the body: the value stands behind it in the frame, high byte first. A writer or

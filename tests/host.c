@@ -1,4 +1,5 @@
-/* The C interface as a host uses it: each link is written and read back, a check value carried on, each rule of the header tried; what fails is printed. */
+/* The C interface as a host uses it: each link is written and read back, a check value is carried on, each rule of the header is tried, and what
+ * fails is printed. */
 #include "linebox.h"
 
 #include <stdio.h>
@@ -324,7 +325,7 @@ static void check_value(void) {
     static const uint8_t digits[] = {'1', '2', '3', '4', '5', '6', '7', '8', '9'};
     CHECK(linebox_crc16(0, digits, 9) == 0xBB3D && linebox_crc16(0xFFFF, digits, 9) == 0x4B37);
     CHECK(linebox_crc16(0, body, 1) == 0xD4C1); /* as behind the body of mdu_frame */
-    /* no bytes leave the start, whatever the pointer */
+    /* a run of no bytes gives the start, whatever the pointer */
     CHECK(linebox_crc16(0, NULL, 0) == 0 && linebox_crc16(0xD4C1, NULL, 0) == 0xD4C1 && linebox_crc16(0xFFFF, digits, 0) == 0xFFFF);
     /* three blocks, cut anywhere, empty ones too */
     for (size_t i = 0; i <= 9; i++)
@@ -346,6 +347,7 @@ static void check_value_by_blocks(void) {
     uint16_t value = 0;
     size_t n;
     while ((n = fread(block, 1, sizeof block, file)) > 0) value = linebox_crc16(value, block, n);
+    CHECK(!ferror(file));
     fclose(file);
     CHECK(value == linebox_crc16(0, data, 1025));
     CHECK(linebox_mdu_write(1, data, 1025, out, sizeof out) == 1033 && out[1031] == value >> 8 && out[1032] == (value & 0xFF));

@@ -1,10 +1,17 @@
-// The 32-bit CRC, the PCS sum and the packing, exported for the benchmark alone: of these leaves the C interface has the 16-bit CRC only.
+// The check values and the packing, exported for the benchmark alone: of these the C interface of linebox has the 16-bit check, and whole frames.
 ghost use mathlib.Core.Path.{_≡_};
 ghost use Rattle.framing.specs.Answer.{countOf, storedAt};
 ghost use Rattle.packing.specs.Packed.{packed};
 ghost use Rattle.packing.specs.Contract.{unpackedIn};
-ghost use Rattle.checksum.specs.Crc.{crc32Of};
+ghost use Rattle.checksum.specs.Crc.{crc16From, crc32Of};
 ghost use Rattle.checksum.specs.Sum.{sumOf};
+
+#[no_mangle]
+pub extern "C" fn bench_crc16(start: u16, bytes: &[u8]) -> u16
+    ensures { λ r. ⌜ r ≡ crc16From start (now (bytes .entry)) ⌝ }
+{
+    checksum::crc16(start, bytes)
+}
 
 #[no_mangle]
 pub extern "C" fn bench_crc32(bytes: &[u8]) -> u32

@@ -32,7 +32,7 @@ pub fn blocks_lines(lines: &mut Lines, start: u16, blocks: &[Vec<u8>]) {
     assert_eq!(crc16_from_line(lines, start, &given(&blocks.concat())), value);
 }
 
-/// Starts that are ignored, xored in at the end or not carried on show; so do short and long runs.
+/// A start that is ignored or xored in at the end, and blocks that each start from 0, give other values than these.
 fn crc16_from_lines(lines: &mut Lines) {
     for start in [0, 1, 0x8000, 0xA001, 0xFFFF] {
         for bytes in [&b"123456789"[..], &[], &[0x00], &[0x80], &[0xFF, 0xFF]] {
@@ -46,9 +46,8 @@ fn crc16_from_lines(lines: &mut Lines) {
         blocks_lines(lines, 0, &[b"123456789"[..cut].to_vec(), Vec::new(), b"123456789"[cut..].to_vec()]);
     }
     let body = run(1025);
-    for size in [1, 95, 96, 256, 1024] {
-        let from = if size == 1 { 1000 } else { 0 };
-        let blocks: Vec<Vec<u8>> = body[from..].chunks(size).map(<[u8]>::to_vec).collect();
+    for (size, of) in [(1, &body[..25]), (95, &body), (96, &body), (256, &body), (1024, &body)] {
+        let blocks: Vec<Vec<u8>> = of.chunks(size).map(<[u8]>::to_vec).collect();
         blocks_lines(lines, 0xD4C1, &blocks);
     }
 }

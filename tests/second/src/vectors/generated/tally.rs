@@ -4,7 +4,8 @@ use crate::vectors::text::Lines;
 use std::collections::BTreeMap;
 
 /// Each call with the answers that it can give: refusals by their number, others by
-/// their word. All have to be seen, and no other may be.
+/// their word, the value of a check as `value`, and as `empty` where no bytes were
+/// given. All have to be seen, and no other may be.
 const ANSWERS: [(&str, &str); 25] = [
     ("crc16-from", "value empty"),
     ("pcs receive", "nothing message 1 4 5 6 8 9 10 11 12 13"),
