@@ -15,7 +15,7 @@
  * argument. The other runs of bytes are only read: while the call lasts others may read them too, but nothing writes them.
  * A length of 0 takes any pointer, NULL too; with any other length the pointer is to that many bytes.
  *
- * Single numbers are bytes, but for a check value, which has 16 bits and may be any. A byte that a link does not allow is
+ * Single numbers are bytes, but for a check value, which is any number of 16 bits. A byte that a link does not allow is
  * refused by the call. A larger number that C is given for a byte is cut to its lowest eight bits, one for a check value to
  * its lowest sixteen, by the language, before the call: test it first where that can happen.
  */
@@ -188,7 +188,7 @@ static inline uint8_t linebox_expansion_type(uint64_t r) { return linebox_field(
 static inline uint8_t linebox_expansion_repeat(uint64_t r) { return linebox_field(r, 2); }
 static inline uint8_t linebox_expansion_address(uint64_t r) { return linebox_field(r, 3); }
 
-/* ---- The 16-bit check value, MDU's CRC (A001, reflected), carried on from a value already reached
+/* ---- The 16-bit check value, MDU's CRC (A001, reflected), carried on from one block to the next
  *
  * Answers the value after `len` bytes when `start` is the value before them; with a length of 0 that is `start` itself. It
  * refuses nothing, and writes nothing. A run that comes in blocks takes one call a block: the first from the start of the whole

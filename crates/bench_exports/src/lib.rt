@@ -1,4 +1,4 @@
-// The check values and the packing, exported for the benchmark alone: of these the C interface of linebox has the 16-bit check, and whole frames.
+// The check values and the packing, exported for the benchmark alone: of these the C interface of linebox has the 16-bit check only.
 ghost use mathlib.Core.Path.{_≡_};
 ghost use Rattle.framing.specs.Answer.{countOf, storedAt};
 ghost use Rattle.packing.specs.Packed.{packed};

@@ -1,4 +1,4 @@
--- The register after a run in parts, for any register constant p: two parts, some bytes more, all bits at once.
+-- The register after a run in parts, for any register constant p: two parts, any blocks, some bytes more, all bits at once.
 use mathlib.Core.Path.{_≡_, refl, sym, ap, ap₂, _∙_}
 use mathlib.Core.List.{List, [], _∷_, _++_, foldl, flatten}
 use Prim.Native.Nat.{ℕ, suc, _+_, _*_, _-_, _^_, _≤_, _<_}

@@ -15,7 +15,7 @@ pub record DifferWithin (n : ℕ) (u v : List ℕ) : Type 0 where
   pub above : (i : ℕ) → k + n ≤ i → getElem? u i ≡ getElem? v i
 
 -- f tells apart different runs of bytes that differ only within n neighbouring bytes and are equally long: with n bytes more every value can be had
--- again, at both widths ([] and 00 share their CRC-16, [] and 9D 0A D9 6D their CRC-32)
+-- again, at both widths ([] and 00 share their CRC-16 from 0, [] and 9D 0A D9 6D their CRC-32)
 abbrev pub Detects : ℕ → (List ℕ → ℕ) → Type 0
 Detects n f = (u v : List ℕ) → Bytes u → Bytes v → length u ≡ length v → DifferWithin n u v → u ≢ v → f u ≢ f v
 

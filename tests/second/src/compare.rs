@@ -531,7 +531,7 @@ mod tests {
         }
         fn crc16(&self, start: u16, bytes: &[u8]) -> u16 {
             match self.0 {
-                10 => Own.crc16(0, bytes),         // each block from 0
+                10 => Own.crc16(0, bytes),         // the start ignored, so each block from 0
                 11 => Own.crc16(0, bytes) ^ start, // the start xored in at the end
                 12 if bytes.is_empty() => 0,
                 13 if bytes.len() >= 96 => Own.crc16(start & 0xFF, bytes),

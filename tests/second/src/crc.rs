@@ -5,7 +5,7 @@
 //! a start is given at the beginning too; the paper's reflected constant A001 is
 //! not used, only tested for.
 
-/// x^16 + x^15 + x^2 + 1, from a value already reached (02, request 1); MDU's starts at 0.
+/// x^16 + x^15 + x^2 + 1, from a start (02, request 1); MDU's starts at 0.
 pub fn crc16(start: u16, bytes: &[u8]) -> u16 {
     let polynomial: u16 = (1 << 15) | (1 << 2) | 1;
     let mut register: u16 = start.reverse_bits();
