@@ -30,7 +30,7 @@ static size_t pack_group(const uint8_t *data, size_t k, uint8_t *out) {
         out[j] = pcs_sent(data[j] & 127);
         top = (uint8_t)(top << 1 | data[j] >> 7);
     }
-    out[k] = pcs_sent(top);
+    out[k] = pcs_sent((uint8_t)(top << (7 - k)));
     return k + 1;
 }
 
@@ -55,7 +55,8 @@ size_t pack_words(const uint8_t *data, size_t n, uint8_t *out, size_t room) {
     return w;
 }
 
-static int well_ended(const uint8_t *p, size_t n) { return n % 8 == 0 || (n % 8 != 1 && (p[n - 1] & 127) >> (n % 8 - 1) == 0); }
+/* Of a short last group the low places are unused: of n % 8 packed bytes, 8 - n % 8 places. */
+static int well_ended(const uint8_t *p, size_t n) { return n % 8 == 0 || (n % 8 != 1 && (p[n - 1] & ((1 << (8 - n % 8)) - 1)) == 0); }
 
 static int sent_bytes(const uint8_t *p, size_t n) {
     for (size_t i = 0; i < n; i++) if (p[i] < 1 || p[i] > 128) return 0;
@@ -64,7 +65,7 @@ static int sent_bytes(const uint8_t *p, size_t n) {
 
 static size_t unpack_group(const uint8_t *p, size_t k, uint8_t *out) {
     uint8_t top = p[k] & 127;
-    for (size_t j = 0; j < k; j++) out[j] = (uint8_t)((p[j] & 127) | (top >> (k - 1 - j) & 1) << 7);
+    for (size_t j = 0; j < k; j++) out[j] = (uint8_t)((p[j] & 127) | (top >> (6 - j) & 1) << 7);
     return k;
 }
 

@@ -108,6 +108,51 @@ static void pcs_refused(void) {
     CHECK(linebox_pcs_read(longer, sizeof longer, store, sizeof store) == LINEBOX_TOO_LONG);
 }
 
+/* the frame of the packed bytes 1 to k and behind them one of top bits, with its sum; answers how long it is */
+static size_t pcs_frame_of(uint8_t k, uint8_t tops) {
+    static const uint8_t header[] = {253, 1, 1, 4, 1, 128, 0, 1, 1};
+    uint8_t sum = 0;
+    memcpy(out, header, sizeof header);
+    out[6] = CAST(uint8_t, k + 1);
+    for (uint8_t j = 0; j < k; j++) out[9 + j] = CAST(uint8_t, j + 1);
+    out[9 + k] = CAST(uint8_t, tops ? tops : 128);
+    for (uint8_t j = 1; j < 10 + k; j++) sum = CAST(uint8_t, sum + out[j]);
+    if (sum > 250) sum = CAST(uint8_t, sum - 128);
+    out[10 + k] = CAST(uint8_t, sum ? sum : 128);
+    out[11 + k] = 254;
+    return CAST(size_t, 12) + k;
+}
+
+/* top bits read into byte j from place 6 - j, and written there again; 13 where a place below that of byte k - 1 is set */
+static void pcs_group_read(uint8_t k, uint8_t tops) {
+    uint8_t frame[20];
+    fresh();
+    size_t n = pcs_frame_of(k, tops);
+    memcpy(frame, out, n);
+    uint64_t r = linebox_pcs_read(frame, n, store, sizeof store);
+    if (tops & ((1 << (7 - k)) - 1)) {
+        CHECK(r == LINEBOX_BADLY_PACKED && holds(store, frame + 1, n - 2, sizeof store));
+        return;
+    }
+    CHECK(linebox_refusal(r) == 0 && linebox_length(r) == k);
+    for (uint8_t j = 0; j < k; j++) CHECK(store[j] == (j + 1) + 128 * (tops >> (6 - j) & 1));
+    fresh();
+    for (uint8_t j = 0; j < k; j++) store[j] = CAST(uint8_t, (j + 1) + 128 * (tops >> (6 - j) & 1));
+    CHECK(linebox_pcs_write(1, 1, LINEBOX_PCS_PLAIN, 1, 1, 1, store, k, out, sizeof out) == CAST(int32_t, n) && holds(out, frame, n, sizeof out));
+}
+
+/* every length of a last group, with every byte of top bits */
+static void pcs_last_groups(void) {
+    for (uint8_t k = 1; k <= 7; k++)
+        for (uint8_t tops = 0; tops < 128; tops++) pcs_group_read(k, tops);
+    /* a fare of two bytes, as request 3 of paper 02 prints it, and as it went out before */
+    static const uint8_t fare[] = {0x96, 0x64}, frame[] = {253, 1, 1, 4, 1, 128, 3, 1, 1, 22, 100, 64, 70, 254};
+    static const uint8_t before[] = {253, 1, 1, 4, 1, 128, 3, 1, 1, 22, 100, 2, 8, 254};
+    fresh();
+    CHECK(linebox_pcs_write(1, 1, LINEBOX_PCS_PLAIN, 1, 1, 1, fare, 2, out, sizeof out) == 14 && holds(out, frame, 14, sizeof out));
+    CHECK(linebox_pcs_read(before, sizeof before, store, sizeof store) == LINEBOX_BADLY_PACKED);
+}
+
 static const uint8_t mdu_frame[] = {0xE3, 0x01, 0x00, 0x01, 0x0D, 0xF2, 0x31, 0xD4, 0xC1}, body[] = {0x31};
 
 static void mdu_reads_back(void) {
@@ -358,6 +403,7 @@ int main(void) {
     pcs_reads_back();
     pcs_not_written();
     pcs_refused();
+    pcs_last_groups();
     mdu_reads_back();
     mdu_not_written();
     mdu_refused();

@@ -1,10 +1,11 @@
--- The twelve examples that the papers mark to be proved, as one statement over one list of rows.
+-- The twelve examples that 01 marks to be proved, and behind them those that the requests of 02 print, as one statement over one list of rows.
 use Prim.Native.Nat.{ℕ}
 use mathlib.Core.Path.{_≡_}
 use mathlib.Core.List.{List, [], _∷_}
 use mathlib.Core.Option.{Option, some}
 use lib.IntN.{ℤ, negsuc}
 use Rattle.framing.specs.Answer.{Outcome, done}
+use Rattle.packing.specs.Packed.{packed}
 use Rattle.packing.specs.Unpacked.{unpacked}
 use Rattle.checksum.specs.Sum.{sumOf}
 use Rattle.checksum.specs.Crc.{crc16Of}
@@ -69,6 +70,7 @@ rows =
       worked = reading signedFares (0x03 ∷ 0x00 ∷ 0x00 ∷ 0x01 ∷ 0x00 ∷ 0x64 ∷ 0x96 ∷ []) 0;
       printed = done (negsuc 27035);
     }
+    ∷ record { Value = List ℕ; worked = packed (0x96 ∷ 0x64 ∷ []); printed = 22 ∷ 100 ∷ 64 ∷ [] }
     ∷ []
 
 abbrev pub Examples : Type 0

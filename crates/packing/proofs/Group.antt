@@ -41,8 +41,8 @@ group-last g h l =
 pub group-back : (g : List ℕ) → Bytes g → length g ≤ 7 → unpackedGroup (length g) (packedGroup g) ≡ g
 unfolding packedGroup unpackedGroup
 group-back g h l =
-    rw (group-last g h l, tops-back g, take-at (map lowSent g) (sent (topsOf g) ∷ []) (length g) (length-map g lowSent))
-    (joined-tops 0 g h)
+    rw (group-last g h l, take-at (map lowSent g) (sent (topsOf g) ∷ []) (length g) (length-map g lowSent))
+    (ap (λ (t : ℕ). joined t (map lowSent g)) (tops-back g) ∙ joined-tops 0 g h)
 
 -- low bits are read back from bytes in 1 to 128
 lows-joined : (t : ℕ) (g : List ℕ) → allSent g ≡ true → map lowSent (joined t g) ≡ g

@@ -2,13 +2,13 @@
 use mathlib.Core.Path.{_≡_, refl, ap, ap₂, _∙_}
 use mathlib.Core.Bool.{true}
 use mathlib.Core.List.{List, [], _∷_, map}
-use Prim.Native.Nat.{ℕ, suc, _+_, _*_, _/_, _%_, _^_, _≤_, _<_}
+use Prim.Native.Nat.{ℕ, suc, _+_, _-_, _*_, _/_, _%_, _^_, _≤_, _<_}
 use native.Mathlib.Nat.{mod-eq-of-lt, mod-lt, pow-suc, div-div-eq-div-mul, div-lt-iff-lt-mul, div-one, mul-one, one-mul, le-refl, lt-of-lt-of-le}
 use native.Mathlib.Omega.{arith}
 use borrow.Author.Tests.{eq-eqb}
 use lib.Dec.{lit<, lit≤}
 use lib.ListN.{length, length-map}
-use lib.Pow.{pow-pos, pow-mono, shl-lt, shl-shr, shl-exact}
+use lib.Pow.{pow-pos, pow-mono, shl-lt, shl-shr, shr-shr, shl-exact}
 use Rattle.runs.specs.Runs.{Bytes}
 use Rattle.packing.specs.Seven.{sent}
 use Rattle.packing.specs.Packed.{lastPlace, topsAfter, topsOf}
@@ -69,10 +69,19 @@ length-joined t (b ∷ g) = ap suc (length-joined t g)
 
 -- ---- the places: the first law is all that the others know of `lastPlace`
 
--- the k bytes of a group have places among the seven
-pub place-room : (k : ℕ) → k ≤ 7 → k + lastPlace k ≤ 7
+-- the k bytes of a group have the highest of the seven places
+pub place-last : (k : ℕ) → k ≤ 7 → lastPlace k ≡ 7 - k
 unfolding lastPlace
-place-room k h = omega arith
+place-last k h = omega arith
+
+pub place-room : (k : ℕ) → k ≤ 7 → k + lastPlace k ≤ 7
+place-room k h = omega (arith, place-last k h)
+
+-- byte j of a group stands at place 6 - j, counted from the last byte's at k - 1 - j
+pub place-back : (v k j : ℕ) → k ≤ 7 → j < k → v / 2 ^ lastPlace k / 2 ^ (k - 1 - j) ≡ v / 2 ^ (6 - j)
+place-back v k j h l =
+    let place : lastPlace k + (k - 1 - j) ≡ 6 - j = omega (arith, place-last k h) in
+    shr-shr v (lastPlace k) (k - 1 - j) ∙ ap (λ (n : ℕ). v / 2 ^ n) place
 
 -- the top bits of at most seven bytes make a seven-bit value
 pub tops-placed : (g : List ℕ) → Bytes g → length g ≤ 7 → topsOf g < 128

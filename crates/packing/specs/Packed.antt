@@ -1,13 +1,13 @@
 -- Packing: data goes out in groups of at most seven bytes, seven bits of each and then one byte with the top bits.
-use Prim.Native.Nat.{ℕ, zero, suc, _+_, _*_, _/_, _%_, _^_}
+use Prim.Native.Nat.{ℕ, zero, suc, _+_, _-_, _*_, _/_, _%_, _^_}
 use mathlib.Core.List.{List, [], _∷_, _++_, map}
 use lib.ListN.{length, take, drop}
 use Rattle.packing.specs.Seven.{sent}
 
--- in the byte of the top bits the last of k bytes stands at this place, and each byte before it one place higher: of seven the
--- first at place 6 and the seventh at place 0; a shorter group ends at place 0 too
+-- in the byte of the top bits the last of k bytes stands at this place, and each byte before it one place higher: so the first of
+-- every group stands at place 6, and the places that a shorter group does not use are the low ones
 unfoldable pub lastPlace : ℕ → ℕ
-lastPlace k = 0
+lastPlace k = 7 - k
 
 -- the bits t, followed by the top bit of each byte of g
 unfoldable pub topsAfter : ℕ → List ℕ → ℕ

@@ -38,7 +38,7 @@ fn last_place(k: usize) -> u8
     requires { ⌜ k ≤ 7 ⌝ }
     ensures { λ r. ⌜ r ≡ lastPlace k ⌝ }
 {
-    0
+    (7 - k) as u8
 }
 
 // The byte that carries the top bits of a group of k bytes.
@@ -151,14 +151,6 @@ fn well_packed(p: &[u8]) -> bool
     }
 }
 
-// The top bits of a group of k bytes, the last byte's at place 0, from the byte that carries them.
-fn tops_of(b: u8, k: usize) -> u8
-    requires { ⌜ k ≤ 7 ⌝ }
-    ensures { λ r. ⌜ r ≡ b % 128 / 2 ^ lastPlace k ⌝ }
-{
-    (b % 128) >> last_place(k)
-}
-
 // A data byte, from the byte that carries its low bits and from its place in the top bits.
 fn data_byte(low: u8, tops: u8, place: usize) -> u8
     requires { ⌜ place < 8 ⌝ }
@@ -172,10 +164,10 @@ fn unpack_group(store: &mut [u8], to: usize, from: usize, k: usize)
     requires { ⌜ (k ≤ 7) × (to ≤ from) × (from + k < length (now store)) ⌝ }
     ensures { λ _. ⌜ now (store .exit) ≡ sets (now (store .entry)) to (unpackedGroup k (drop from (now (store .entry)))) ⌝ }
 {
-    let tops = tops_of(store[from + k], k);
+    let tops = value_of(store[from + k]);
     let mut j = 0;
     while j < k {
-        store[to + j] = data_byte(store[from + j], tops, k - 1 - j);
+        store[to + j] = data_byte(store[from + j], tops, 6 - j);
         j += 1;
     }
 }

@@ -1,4 +1,4 @@
-// Makes the calls on check values, small examples and whole frames that standard input names, one a line, and prints each line again with
+// Makes the calls on check values, packing, small examples and whole frames that standard input names, one a line, and prints each line again with
 // what the call answered.
 // Both standard input and what is to be printed come from the second implementation, whose src/vectors.rs says how lines are written.
 mod values;

@@ -1,4 +1,5 @@
-// Check values, the 16-bit one also by the host's call from a start, and the examples of 01 that are neither frames of a section nor records.
+// Check values, the 16-bit one also by the host's call from a start, packing, and the examples of 01 that are neither frames of a section
+// nor records.
 use framing::Answer;
 use vector_text::memory;
 use vector_text::print;
@@ -33,6 +34,12 @@ fn show_done(answer: Answer, memory: &[u8]) {
     }
 }
 
+fn pack(bytes: &[u8]) {
+    let mut memory = io::buffer();
+    let answer = packing::pack_into(bytes, &mut memory, 0);
+    show_done(answer, &memory);
+}
+
 fn unpack(bytes: &[u8]) {
     let mut memory = io::buffer();
     let n = memory::copy(bytes, &mut memory);
@@ -61,6 +68,9 @@ fn run_on_bytes(line: &[u8], bytes: &[u8]) {
     }
     if words::is(line, 0, b"sum") {
         print::number(b" ", checksum::sum(bytes) as u64);
+    }
+    if words::is(line, 0, b"pack") {
+        pack(bytes);
     }
     if words::is(line, 0, b"unpack") {
         unpack(bytes);

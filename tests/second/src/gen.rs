@@ -316,9 +316,11 @@ fn data_damaged(random: &mut Xorshift, wire: Wire) -> Vec<u8> {
         Wire::Expansion => 4,
     };
     if random.once_in(3) {
-        // The last packed byte: places that a short group does not use.
+        // The last packed byte: places that a short group does not use, or its top bits at those of 01.
+        let old_style = wire == Wire::Pcs && random.once_in(2);
+        let in_group = (bytes.len() - header + 7) % 8;
         if let Some(last) = bytes[header..].last_mut() {
-            *last = edge(random);
+            *last = if old_style { packing::seven_out((*last & 127) >> (7 - in_group)) } else { edge(random) };
         }
     } else {
         damage(random, &mut bytes, header);

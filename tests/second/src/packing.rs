@@ -18,17 +18,16 @@ pub fn seven_in(byte: u8) -> Option<u8> {
     }
 }
 
-/// A group goes out as seven bits of each byte and one byte of top bits:
-/// the last byte of the group at place 0, the one before it at place 1, and so
-/// on, so the first of seven is at place 6. Unused places are 0.
+/// A group goes out as seven bits of each byte and one byte of top bits: the
+/// first byte of every group at place 6, each one behind it one place lower (02,
+/// wish 3). The places that a short group does not use are the low ones: 0.
 pub fn pack(data: &[u8]) -> Vec<u8> {
     let mut packed = Vec::new();
     for group in data.chunks(7) {
         let mut tops = 0u8;
         for (index, byte) in group.iter().enumerate() {
             packed.push(seven_out(byte & 127));
-            let place = group.len() - 1 - index;
-            tops |= (byte >> 7) << place;
+            tops |= (byte >> 7) << (6 - index);
         }
         packed.push(seven_out(tops));
     }
@@ -45,16 +44,28 @@ pub fn unpack(packed: &[u8]) -> Option<Vec<u8>> {
     for group in packed.chunks(8) {
         let in_group = group.len() - 1;
         let tops = seven_in(group[in_group])?;
-        if (tops as u32) >> in_group != 0 {
-            return None;
-        }
         for (index, byte) in group[..in_group].iter().enumerate() {
-            let place = in_group - 1 - index;
-            let top = (tops >> place) & 1;
+            let top = (tops >> (6 - index)) & 1;
             data.push(seven_in(*byte)? | (top << 7));
+        }
+        if (in_group..7).any(|index| (tops >> (6 - index)) & 1 == 1) {
+            return None;
         }
     }
     Some(data)
+}
+
+/// A packed run as the writers of 01 ended it: the top bits of a short last
+/// group with the last byte's at place 0, so the high places unused.
+pub fn old_style(data: &[u8]) -> Vec<u8> {
+    let mut packed = pack(data);
+    let in_group = data.len() % 7;
+    if in_group > 0 {
+        if let Some(last) = packed.last_mut() {
+            *last = seven_out((*last & 127) >> (7 - in_group));
+        }
+    }
+    packed
 }
 
 #[cfg(test)]
@@ -70,20 +81,42 @@ mod tests {
     }
 
     #[test]
-    fn short_group_ends_at_place_0() {
-        assert_eq!(pack(&[0x80]), vec![128, 1]);
-        assert_eq!(pack(&[0x80, 0x01]), vec![128, 1, 2]);
-        assert_eq!(pack(&[0x01, 0x80]), vec![1, 128, 1]);
+    fn short_group_begins_at_place_6() {
+        assert_eq!(pack(&[0x96, 0x64]), vec![22, 100, 64]); // 02's own
+        assert_eq!(pack(&[0x80]), vec![128, 64]);
+        assert_eq!(pack(&[0x80, 0x01]), vec![128, 1, 64]);
+        assert_eq!(pack(&[0x01, 0x80]), vec![1, 128, 32]);
+        assert_eq!(pack(&[0, 0, 0, 0, 0, 0x80]), vec![128, 128, 128, 128, 128, 128, 2]);
         assert_eq!(pack(&[]), Vec::<u8>::new());
+    }
+
+    #[test]
+    fn old_style_short_groups() {
+        assert_eq!(old_style(&[0x96, 0x64]), vec![22, 100, 2]); // 01's own
+        assert_eq!(old_style(&[0x80]), vec![128, 1]);
+        assert_eq!(old_style(&[0x80; 7]), pack(&[0x80; 7]));
+        assert_eq!(old_style(&[]), Vec::<u8>::new());
+        // Up to three bytes with a top bit set: 13. Of four to six some unpack, to other data.
+        let bytes = |length: usize, tops: usize| -> Vec<u8> {
+            (0..length).map(|k| ((tops >> k & 1) << 7) as u8).collect()
+        };
+        for (length, other) in [(1, 0), (2, 0), (3, 0), (4, 1), (5, 7), (6, 31)] {
+            let answers: Vec<_> = (1..1 << length).map(|tops| (bytes(length, tops), unpack(&old_style(&bytes(length, tops))))).collect();
+            assert_eq!(answers.iter().filter(|(_, answer)| answer.is_some()).count(), other, "{length}");
+            assert!(answers.iter().all(|(data, answer)| answer.as_ref() != Some(data)), "{length}");
+        }
+        assert_eq!(unpack(&old_style(&[0x80, 0, 0, 0])), Some(vec![0, 0, 0, 0x80]));
     }
 
     #[test]
     fn badly_packed() {
         assert_eq!(unpack(&[1]), None); // length 1 modulo 8
         assert_eq!(unpack(&[1, 1, 1, 1, 1, 1, 1, 1, 1]), None);
-        assert_eq!(unpack(&[1, 2]), None); // unused place set
-        assert_eq!(unpack(&[1, 1]), Some(vec![0x81]));
-        assert_eq!(unpack(&[1, 1, 4]), None);
+        assert_eq!(unpack(&[128, 1]), None); // unused place set
+        assert_eq!(unpack(&[1, 65]), None);
+        assert_eq!(unpack(&[1, 64]), Some(vec![0x81]));
+        assert_eq!(unpack(&[1, 1, 16]), None);
+        assert_eq!(unpack(&[1, 1, 32]), Some(vec![1, 0x81]));
         assert_eq!(unpack(&[0, 128]), None); // outside 1 to 128
         assert_eq!(unpack(&[129, 128]), None);
         assert_eq!(unpack(&[1, 0]), None);

@@ -4,8 +4,8 @@
 //! `second calls PART` prints a call a line: the standard input of the program
 //! `vectors_PART`. `second vectors PART` prints the same lines, each followed by what
 //! the call answered: what the program has to print. Below a bar, which is not
-//! printed, stands between the two. PART is `values` (sections `crc`, `whole` and most
-//! of `examples`), `links` (those of the links), `gate` or `records` (all others).
+//! printed, stands between the two. PART is `values` (sections `crc`, `packing`, `whole`
+//! and most of `examples`), `links` (those of the links), `gate` or `records` (all others).
 //!
 //! A line is words with one space between them. Numbers are decimal. BYTES are
 //! upper-case hex without spaces; `-` stands for none, `runN` for N bytes of
@@ -22,6 +22,10 @@
 //!     crc16 BYTES | VALUE                 in hex, high byte first
 //!     crc32 BYTES | VALUE
 //!     crc16-from START BYTES | VALUE      by the host's call, from the value START
+//!
+//! Packing (section `packing`), in memory that is long enough
+//!     pack BYTES | BYTES
+//!     unpack BYTES | BYTES                or `refused 13`
 //!
 //! 01's examples (section `examples`), number N
 //!     example N sum BYTES | VALUE         decimal; the next three in hex
@@ -107,7 +111,7 @@ use gate::gate_section;
 use records::{records_section, views_section};
 use text::{section, Lines};
 pub use generated::generate;
-use values::{crc_section, examples_section};
+use values::{crc_section, examples_section, packing_section};
 
 /// One of the programs.
 #[derive(Clone, Copy, PartialEq)]
@@ -137,6 +141,7 @@ fn link_sections() -> [(Lines, Lines); 4] {
 
 fn values_lines() -> Lines {
     let mut lines = crc_section();
+    lines.append(packing_section());
     lines.append(examples_section(Part::Values));
     lines.append(section("whole"));
     for (_, whole) in link_sections() {

@@ -44,7 +44,7 @@ const FRAMES: [&[u8]; 5] = [
 ];
 
 /// Bodies for 9, 10 and 13, and good ones beside them; the sum is put behind each.
-const BODIES: [&[u8]; 28] = [
+const BODIES: [&[u8]; 36] = [
     &[0, 1, 4, 1, 128, 128, 1, 1],
     &[251, 1, 4, 1, 128, 128, 1, 1],
     &[255, 250, 4, 250, 128, 128, 250, 250],
@@ -73,6 +73,16 @@ const BODIES: [&[u8]; 28] = [
     &[1, 1, 4, 1, 128, 2, 1, 1, 5, 2],
     &[1, 1, 4, 1, 128, 3, 1, 1, 5, 5, 4],
     &[1, 1, 4, 1, 128, 3, 1, 1, 5, 5, 3],
+    &[1, 1, 4, 1, 128, 3, 1, 1, 5, 5, 96],
+    // 02's fare of two bytes, and as 01 had it.
+    &[1, 1, 4, 1, 128, 3, 1, 1, 22, 100, 64],
+    &[1, 1, 4, 1, 128, 3, 1, 1, 22, 100, 2],
+    // Old-style tails: one byte is 13, four to six can be other data.
+    &[1, 1, 4, 1, 128, 2, 1, 1, 128, 1],
+    &[1, 1, 4, 1, 128, 2, 1, 1, 128, 64],
+    &[1, 1, 4, 1, 128, 5, 1, 1, 1, 2, 3, 4, 8],
+    &[1, 1, 4, 1, 128, 6, 1, 1, 1, 2, 3, 4, 5, 28],
+    &[1, 1, 4, 1, 128, 7, 1, 1, 1, 2, 3, 4, 5, 6, 62],
 ];
 
 fn frame(n: [u8; 6], data: &[u8]) -> Vec<u8> {
@@ -109,6 +119,10 @@ fn lengths(s: &mut Section) {
         s.write(&[255, 128, 1, 128, 250, 1], given(&data), 40);
         s.read_back::<Pcs>();
     }
+    // 02's fare of two bytes.
+    s.write(&[101, 250, 0, 2, 1, 1], given(&[0x96, 0x64]), 20);
+    s.read_back::<Pcs>();
+    s.whole::<Pcs>();
     // The length edge: 1,024 sent, 1,025 refused.
     for length in [1023, 1024, 1025, 1026] {
         s.write(&[1, 2, 0, 3, 4, 5], given_run(length), 1200);

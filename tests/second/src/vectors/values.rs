@@ -1,7 +1,7 @@
-//! The published check values, and 01's examples.
+//! The published check values, packing, and 01's examples.
 
 use super::pcs::summed;
-use super::text::{bytes_word, given, given_run, run, section, value_word, Given, Lines};
+use super::text::{answer_word, bytes_word, given, given_run, run, section, value_word, Given, Lines};
 use super::Part;
 use crate::crc;
 use crate::dle;
@@ -61,6 +61,65 @@ pub fn crc_section() -> Lines {
         crc_lines(&mut lines, &format!("run{length}"), &run(length));
     }
     crc16_from_lines(&mut lines);
+    lines
+}
+
+fn pack_line(lines: &mut Lines, data: &[u8]) {
+    lines.add(&format!("pack {}", bytes_word(data)), &answer_word(&packing::pack(data)));
+}
+
+fn unpack_line(lines: &mut Lines, packed: &[u8]) {
+    let answer = packing::unpack(packed).map_or(String::from("refused 13"), |data| answer_word(&data));
+    lines.add(&format!("unpack {}", bytes_word(packed)), &answer);
+}
+
+/// A group of `length` bytes, byte k being k + 1 and its top bit that at place k of `tops`.
+fn group(length: usize, tops: usize) -> Vec<u8> {
+    (0..length).map(|k| (k + 1 + (tops >> k & 1) * 128) as u8).collect()
+}
+
+/// Every length of a last group with every pattern of top bits is packed, and every byte of top bits is unpacked
+/// behind a group of every length, with those that 01 made for a short one.
+fn groups(lines: &mut Lines) {
+    for length in 1..=7 {
+        for tops in 0..1 << length {
+            pack_line(lines, &group(length, tops));
+        }
+    }
+    for length in 1..=7 {
+        for tops in (0..=129).chain([192, 255]) {
+            unpack_line(lines, &[group(length, 0), vec![tops]].concat());
+        }
+    }
+}
+
+pub fn packing_section() -> Lines {
+    let mut lines = section("packing");
+    // 02's fare of two bytes; old-style tails: one that is 13, and of four to six bytes one that is other data.
+    pack_line(&mut lines, &[0x96, 0x64]);
+    unpack_line(&mut lines, &packing::pack(&[0x96, 0x64]));
+    for data in [&[0x96, 0x64][..], &[0x80], &[0x80, 0, 0, 0], &[0, 0x80, 0, 0, 0], &[0x80, 0x80, 0, 0, 0, 0]] {
+        unpack_line(&mut lines, &packing::old_style(data));
+    }
+    groups(&mut lines);
+    // Behind full groups; top bits alone; bytes outside 1 to 128 anywhere.
+    for length in [0, 7, 8, 13, 14, 15, 20, 21, 22, 50, 56, 57] {
+        let data: Vec<u8> = run(length);
+        pack_line(&mut lines, &data);
+        unpack_line(&mut lines, &packing::pack(&data));
+        unpack_line(&mut lines, &packing::old_style(&data));
+    }
+    for packed in [&[128][..], &[64], &[1, 2, 3, 4, 5, 6, 7, 8, 64]] {
+        unpack_line(&mut lines, packed);
+    }
+    let packed = packing::pack(&run(16));
+    for place in 0..packed.len() {
+        for wrong in [0, 129] {
+            let mut bad = packed.clone();
+            bad[place] = wrong;
+            unpack_line(&mut lines, &bad);
+        }
+    }
     lines
 }
 
