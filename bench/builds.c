@@ -1,5 +1,5 @@
-/* Times two builds of linebox by turns in one process: of each call the earlier build's time over that of the present one. Each build reads what it wrote
- * itself, so that builds of two rules can be held against each other. */
+/* Times two builds of linebox by turns in one process: of each call the earlier build's time over that of the present one. Each build reads what
+ * it wrote itself, so that builds of two rules can be held against each other. */
 #include "side.h"
 #include <stdio.h>
 #include <stdlib.h>
@@ -21,9 +21,9 @@
     uint64_t p##linebox_mdu_read(const uint8_t *, size_t, uint8_t *, size_t); \
     uint64_t p##linebox_dle_read(const uint8_t *, size_t, uint8_t *, size_t); \
     uint64_t p##linebox_expansion_read(const uint8_t *, size_t, uint8_t *, size_t); \
-    static const struct side side_name = {#side_name, p##bench_crc16, p##bench_crc32, p##bench_sum, p##bench_pack, p##bench_unpack, p##linebox_pcs_write, \
-        p##linebox_mdu_write, p##linebox_dle_write, p##linebox_expansion_write, p##linebox_pcs_read, p##linebox_mdu_read, p##linebox_dle_read, \
-        p##linebox_expansion_read};
+    static const struct side side_name = {#side_name, p##bench_crc16, p##bench_crc32, p##bench_sum, p##bench_pack, p##bench_unpack, \
+        p##linebox_pcs_write, p##linebox_mdu_write, p##linebox_dle_write, p##linebox_expansion_write, \
+        p##linebox_pcs_read, p##linebox_mdu_read, p##linebox_dle_read, p##linebox_expansion_read};
 BUILD(earlier, earlier_)
 BUILD(present, )
 
@@ -76,6 +76,7 @@ static void payloads(size_t n, run *writer) {
             lengths[b][k] = n;
             if (!writer) continue;
             lengths[b][k] = (size_t)writer(b ? &present : &earlier, inputs[b][k], n);
+            if (lengths[b][k] == 0 || lengths[b][k] > LONGEST) { fprintf(stderr, "%zu bytes are not written\n", n); exit(1); }
             memcpy(inputs[b][k], out, lengths[b][k]);
         }
     }
@@ -86,13 +87,16 @@ static void row(const char *name, run *call, run *writer, size_t n) {
     payloads(n, writer);
     size_t times = 1 + (size_t)(40000 / (batch(call, &present, 1, 0) * INPUTS));
     for (int k = 0; k < ROUNDS; k++) {
-        for (int i = 0; i < 2; i++) { int b = (i + k) % 2; time[b][k] = batch(call, b ? &present : &earlier, times, (size_t)k * 272 % 4096); }
+        for (int i = 0; i < 2; i++) {
+            int b = (i + k) % 2;
+            time[b][k] = batch(call, b ? &present : &earlier, times, (size_t)k * 272 % 4096);
+        }
         ratio[k] = time[0][k] / time[1][k];
     }
     qsort(ratio, ROUNDS, sizeof *ratio, by_size);
     for (int b = 0; b < 2; b++) qsort(time[b], ROUNDS, sizeof *time[b], by_size);
-    printf("| %s | %zu | %.2f (%.2f to %.2f) | %.3g | %.3g |\n", name, n, ratio[ROUNDS / 2], ratio[ROUNDS / 4], ratio[ROUNDS * 3 / 4], time[0][ROUNDS / 2],
-        time[1][ROUNDS / 2]);
+    printf("| %s | %zu | %.2f (%.2f to %.2f) | %.1f | %.1f |\n", name, n, ratio[ROUNDS / 2], ratio[ROUNDS / 4], ratio[ROUNDS * 3 / 4],
+        time[0][ROUNDS / 2], time[1][ROUNDS / 2]);
 }
 
 int main(void) {

@@ -6,7 +6,7 @@ use native.Mathlib.Nat.{mul-mod-left, le-refl, le-of-lt}
 use native.Mathlib.Decide.{decLe}
 use native.Mathlib.Omega.{arith}
 use borrow.Author.Tests.{eq-eqb, ne-eqb}
-use lib.Dec.{lit<}
+use lib.Dec.{eqb, lit<}
 use lib.ListN.{length, getD, length-append, length-map, List·getD-append}
 use lib.Pow.{recompose}
 use lib.Seq.{getD-append-add}
@@ -92,8 +92,9 @@ module _ (g r : List ℕ) (f : First 7 g r) (h : Bytes (g ++ r)) (i : ℕ) (l : 
       let low : i + i / 7 ≡ i = omega arith in
       let place : i % 7 ≡ i = omega arith in
       let last : min (8 * (i / 7) + 7) (length (packed (g ++ r)) - 1) ≡ length g = omega (arith, all, length-packed r) in
+      let at-last : getD (packed (g ++ r)) (length g) 0 ≡ getD (packedGroup g) (length g) 0 = in-first (length g) (le-refl (length g)) in
       let tops : topsWith (g ++ r) i ≡ topsOf g =
-      ap (λ (n : ℕ). valueOf (getD (packed (g ++ r)) n 0)) last ∙ ap (λ (b : ℕ). valueOf b) (in-first (length g) (le-refl (length g))) ∙ group-last g hg seven in
+      ap (λ (n : ℕ). valueOf (getD (packed (g ++ r)) n 0)) last ∙ ap (λ (b : ℕ). valueOf b) at-last ∙ group-last g hg seven in
       let byte : getD (g ++ r) i 0 ≡ getD g i 0 = List·getD-append g r 0 i own in
       record {
         low = rw (low, byte, in-first i (le-of-lt own)) (group-low g i own);
@@ -143,8 +144,9 @@ low-places-unused k v l h =
     let low : ℕ = v % 2 ^ place in
     let seven : k + place ≡ 7 = omega (arith, place-last k l) in
     let parts : own + low ≡ v = recompose k place (rw seven h) in
-    rw (← place-last k l)
-    (elim (decLe 1 low) [
+    let tested : eqb own v ≡ eqb low 0 =
+    elim (decLe 1 low) [
       | yes set ↦ ne-eqb own v (λ e. omega arith) ∙ sym (ne-eqb low 0 (λ e. omega arith))
       | no clear ↦ eq-eqb own v (omega arith) ∙ sym (eq-eqb low 0 (omega arith))
-    ])
+    ] in
+    tested ∙ ap (λ (n : ℕ). eqb (v % 2 ^ n) 0) (place-last k l)

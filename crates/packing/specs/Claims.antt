@@ -1,4 +1,5 @@
--- What is claimed of packing beyond the contracts of the functions: where each bit of the data stands. proofs/Places.antt proves it.
+-- What is claimed of packing beyond the contracts of the functions: where each bit of the data stands, and which places are unused.
+-- proofs/Places.antt proves it.
 use Prim.Native.Nat.{ℕ, suc, _+_, _-_, _*_, _/_, _%_, _^_, _≤_, _<_, min}
 use mathlib.Core.Path.{_≡_}
 use mathlib.Core.List.{List}

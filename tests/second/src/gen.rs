@@ -306,7 +306,7 @@ fn started_again(random: &mut Xorshift, wire: Wire) -> Vec<u8> {
     frame
 }
 
-/// The data damaged, stated length and check values put right: 13.
+/// The data damaged, stated length and check values put right: 13, or other data.
 fn data_damaged(random: &mut Xorshift, wire: Wire) -> Vec<u8> {
     let mut bytes = content(random, wire);
     let header = match wire {

@@ -51,17 +51,19 @@ loop-holds c =
     let k : ℕ = s .args .k in
     let room : k ≤ length (drop from d) = simp length-drop (omega arith) in
     let tops : c .value-of .result ≡ getD (drop from d) k 0 % 128 = c .value-of .ensures ∙ ap (λ (n : ℕ). n % 128) (sym (getD-drop from d k 0)) in
-    (omega arith, run-start (omega (arith, length-unpackedGroup k (drop from d) room)) (ap (λ (v : ℕ). joined (v / 2 ^ lastPlace k) (take k (drop from d))) tops))
+    let long : length (unpackedGroup k (drop from d)) ≡ k = length-unpackedGroup k (drop from d) room in
+    (omega arith, run-start (omega arith) (ap (λ (v : ℕ). joined (v / 2 ^ lastPlace k) (take k (drop from d))) tops))
 
 loop-again : tie.Need-loop-again Inv-loop μ-loop
 loop-again c =
     let a = c .before .before .before in
     let v : ℕ = a .before .value-of .result in
-    let j : ℕ = a .loop .j in (
-      omega arith,
-      run-one (a .loop .inv .1) (next (Store a) (S a .args .from) (S a .args .k) j v (S a .pre .0) (S a .pre .2) (c .before .before .loop-test .taken))
-          (c .data-byte .ensures ∙ ap (λ (b : ℕ). b % 128 + 128 * (v / 2 ^ (6 - j) % 2)) (run-get 0 (S a .args .from + j) (omega arith) (a .loop .inv .1))),
-    )
+    let j : ℕ = a .loop .j in
+    let here : ℕ = S a .args .from + j in
+    let byte : c .data-byte .result ≡ getD (a .loop .store) here 0 % 128 + 128 * (v / 2 ^ (6 - j) % 2) = c .data-byte .ensures in
+    let low : getD (a .loop .store) here 0 ≡ getD (Store a) here 0 = run-get 0 here (omega arith) (a .loop .inv .1) in
+    let more = next (Store a) (S a .args .from) (S a .args .k) j v (S a .pre .0) (S a .pre .2) (c .before .before .loop-test .taken) in
+    (omega arith, run-one (a .loop .inv .1) more (byte ∙ ap (λ (b : ℕ). b % 128 + 128 * (v / 2 ^ (6 - j) % 2)) low))
 
 same-length : tie.Need-same-length Inv-loop μ-loop
 same-length c = c .before .loop .inv .1 .long

@@ -77,9 +77,9 @@ const BODIES: [&[u8]; 36] = [
     // 02's fare of two bytes, and as 01 had it.
     &[1, 1, 4, 1, 128, 3, 1, 1, 22, 100, 64],
     &[1, 1, 4, 1, 128, 3, 1, 1, 22, 100, 2],
-    // Old-style tails: one byte is 13, four to six can be other data.
-    &[1, 1, 4, 1, 128, 2, 1, 1, 128, 1],
+    // One byte as it is packed, and old-style tails: one byte is 13, four to six can be other data.
     &[1, 1, 4, 1, 128, 2, 1, 1, 128, 64],
+    &[1, 1, 4, 1, 128, 2, 1, 1, 128, 1],
     &[1, 1, 4, 1, 128, 5, 1, 1, 1, 2, 3, 4, 8],
     &[1, 1, 4, 1, 128, 6, 1, 1, 1, 2, 3, 4, 5, 28],
     &[1, 1, 4, 1, 128, 7, 1, 1, 1, 2, 3, 4, 5, 6, 62],

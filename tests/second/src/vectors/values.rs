@@ -73,9 +73,9 @@ fn unpack_line(lines: &mut Lines, packed: &[u8]) {
     lines.add(&format!("unpack {}", bytes_word(packed)), &answer);
 }
 
-/// A group of `length` bytes, byte k being k + 1 and its top bit that at place k of `tops`.
-fn group(length: usize, tops: usize) -> Vec<u8> {
-    (0..length).map(|k| (k + 1 + (tops >> k & 1) * 128) as u8).collect()
+/// Data of `length` bytes, byte k being k + 1 and its top bit that at place k of `tops`.
+fn data_with(length: usize, tops: u64) -> Vec<u8> {
+    (0..length).map(|k| (k as u64 + 1 + (tops >> k & 1) * 128) as u8).collect()
 }
 
 /// Every length of a last group with every pattern of top bits is packed, and every byte of top bits is unpacked
@@ -83,32 +83,35 @@ fn group(length: usize, tops: usize) -> Vec<u8> {
 fn groups(lines: &mut Lines) {
     for length in 1..=7 {
         for tops in 0..1 << length {
-            pack_line(lines, &group(length, tops));
+            pack_line(lines, &data_with(length, tops));
         }
     }
     for length in 1..=7 {
         for tops in (0..=129).chain([192, 255]) {
-            unpack_line(lines, &[group(length, 0), vec![tops]].concat());
+            unpack_line(lines, &[data_with(length, 0), vec![tops]].concat());
         }
     }
 }
 
 pub fn packing_section() -> Lines {
     let mut lines = section("packing");
-    // 02's fare of two bytes; old-style tails: one that is 13, and of four to six bytes one that is other data.
+    // 02's fare of two bytes. Old-style tails: of one and two bytes 13, of four to six, alone and behind a full group, other data.
     pack_line(&mut lines, &[0x96, 0x64]);
     unpack_line(&mut lines, &packing::pack(&[0x96, 0x64]));
     for data in [&[0x96, 0x64][..], &[0x80], &[0x80, 0, 0, 0], &[0, 0x80, 0, 0, 0], &[0x80, 0x80, 0, 0, 0, 0]] {
         unpack_line(&mut lines, &packing::old_style(data));
+        unpack_line(&mut lines, &packing::old_style(&[&[0x85; 7], data].concat()));
     }
     groups(&mut lines);
-    // Behind full groups; top bits alone; bytes outside 1 to 128 anywhere.
-    for length in [0, 7, 8, 13, 14, 15, 20, 21, 22, 50, 56, 57] {
-        let data: Vec<u8> = run(length);
-        pack_line(&mut lines, &data);
-        unpack_line(&mut lines, &packing::pack(&data));
-        unpack_line(&mut lines, &packing::old_style(&data));
+    // Behind full groups, with all top bits and with every third; top bits alone; bytes outside 1 to 128 anywhere.
+    for length in (7..=21).chain([50, 56]) {
+        for data in [data_with(length, u64::MAX), data_with(length, 0x1249_2492_4924_9249)] {
+            pack_line(&mut lines, &data);
+            unpack_line(&mut lines, &packing::pack(&data));
+        }
     }
+    pack_line(&mut lines, &[]);
+    unpack_line(&mut lines, &[]);
     for packed in [&[128][..], &[64], &[1, 2, 3, 4, 5, 6, 7, 8, 64]] {
         unpack_line(&mut lines, packed);
     }
