@@ -6,7 +6,7 @@
 #include <string.h>
 #include <time.h>
 
-/* A side whose calls have names that begin so. */
+/* A side whose calls have names that begin with p. */
 #define BUILD(side_name, p) \
     uint16_t p##bench_crc16(uint16_t, const uint8_t *, size_t); \
     uint32_t p##bench_crc32(const uint8_t *, size_t); \
@@ -38,7 +38,7 @@ RUN(crc16, s->crc16(0, p, n))
 RUN(crc32, s->crc32(p, n))
 RUN(sum, s->sum(p, n))
 RUN(pack, s->pack(p, n, out, sizeof out))
-RUN(unpack, (memcpy(store, p, n), s->unpack(store, sizeof store, 0, n)))
+RUN(unpack, (memcpy(store + 8, p, n), s->unpack(store, sizeof store, 8, n))) /* behind a header, as in a frame */
 RUN(pcs_write, s->pcs_write(2, 250, 0, 4, 1, 1, p, n, out, sizeof out))
 RUN(mdu_write, s->mdu_write(13, p, n, out, sizeof out))
 RUN(dle_write, s->dle_write(7, 3, p, n, out, sizeof out))
@@ -52,7 +52,7 @@ static double now(void) { struct timespec t; clock_gettime(CLOCK_MONOTONIC, &t);
 
 static int by_size(const void *a, const void *b) { double x = *(const double *)a, y = *(const double *)b; return (x > y) - (x < y); }
 
-/* The calls stand so many bytes lower on the stack than another round's. */
+/* The calls stand `lower` bytes further down the stack, another number in each round. */
 __attribute__((noinline))
 static double batch(run *call, const struct side *s, size_t times, size_t lower) {
     int b = s == &present;
@@ -95,12 +95,11 @@ static void row(const char *name, run *call, run *writer, size_t n) {
     }
     qsort(ratio, ROUNDS, sizeof *ratio, by_size);
     for (int b = 0; b < 2; b++) qsort(time[b], ROUNDS, sizeof *time[b], by_size);
-    printf("| %s | %zu | %.2f (%.2f to %.2f) | %.1f | %.1f |\n", name, n, ratio[ROUNDS / 2], ratio[ROUNDS / 4], ratio[ROUNDS * 3 / 4],
+    printf("%s | %zu | %.2f (%.2f to %.2f) | %.1f, %.1f\n", name, n, ratio[ROUNDS / 2], ratio[ROUNDS / 4], ratio[ROUNDS * 3 / 4],
         time[0][ROUNDS / 2], time[1][ROUNDS / 2]);
 }
 
 int main(void) {
-    puts("| Call | Payload | earlier over present | earlier, ns | present, ns |\n|---|--:|--:|--:|--:|");
     for (size_t n = 1; n <= 1024; n *= 4) {
         row("CRC-16", crc16_run, 0, n);
         row("CRC-32", crc32_run, 0, n);

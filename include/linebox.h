@@ -32,9 +32,9 @@ extern "C" {
 /* The version of this interface: 1,000 times the major number, and the minor one. The minor number grows with what is added
  * here, the major one when something that stood here changes: a number, a name, or what a call answers or leaves for some
  * arguments. The library carries no number of its own: link the one that was built beside this header.
- * 1001 added linebox_crc16. 2000 moved top bits in PCS frames whose data do not fill groups of seven bytes: frames of a device,
- * or of a host of an older version, that has them where they were are refused with LINEBOX_BADLY_PACKED or, with four to six
- * bytes in the last group, may be read as other data. Where the last group is full or has no byte above 127, nothing moved. */
+ * 1001 added linebox_crc16. 2000 moved the top bits of a PCS frame's last group where that is shorter than seven bytes. A frame
+ * that has them where they stood before is refused with LINEBOX_BADLY_PACKED or, with four to six bytes in that group, may be
+ * read as other data. Where the last group is full or has no byte above 127, nothing moved. */
 #define LINEBOX_VERSION 2000
 
 /* ---- Refusals: why a call was not done. 0 is no refusal. */

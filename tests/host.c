@@ -123,9 +123,10 @@ static size_t pcs_frame_of(uint8_t k, uint8_t tops) {
     return CAST(size_t, 12) + k;
 }
 
-/* top bits read into byte j from place 6 - j, and written there again; 13 where a place below that of byte k - 1 is set */
+/* top bits read into byte j from place 6 - j, and written there again; 13 where a place below that of byte k - 1 is set. The store has the data
+ * before what was gathered, or all of that */
 static void pcs_group_read(uint8_t k, uint8_t tops) {
-    uint8_t frame[20];
+    uint8_t frame[20], left[18];
     fresh();
     size_t n = pcs_frame_of(k, tops);
     memcpy(frame, out, n);
@@ -134,11 +135,11 @@ static void pcs_group_read(uint8_t k, uint8_t tops) {
         CHECK(r == LINEBOX_BADLY_PACKED && holds(store, frame + 1, n - 2, sizeof store));
         return;
     }
-    CHECK(linebox_refusal(r) == 0 && linebox_length(r) == k);
-    for (uint8_t j = 0; j < k; j++) CHECK(store[j] == (j + 1) + 128 * (tops >> (6 - j) & 1));
+    memcpy(left, frame + 1, n - 2);
+    for (uint8_t j = 0; j < k; j++) left[j] = CAST(uint8_t, (j + 1) + 128 * (tops >> (6 - j) & 1));
+    CHECK(linebox_refusal(r) == 0 && linebox_length(r) == k && holds(store, left, n - 2, sizeof store));
     fresh();
-    for (uint8_t j = 0; j < k; j++) store[j] = CAST(uint8_t, (j + 1) + 128 * (tops >> (6 - j) & 1));
-    CHECK(linebox_pcs_write(1, 1, LINEBOX_PCS_PLAIN, 1, 1, 1, store, k, out, sizeof out) == CAST(int32_t, n) && holds(out, frame, n, sizeof out));
+    CHECK(linebox_pcs_write(1, 1, LINEBOX_PCS_PLAIN, 1, 1, 1, left, k, out, sizeof out) == CAST(int32_t, n) && holds(out, frame, n, sizeof out));
 }
 
 /* every length of a last group, with every byte of top bits */

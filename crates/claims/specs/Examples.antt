@@ -1,4 +1,5 @@
--- The twelve examples that 01 marks to be proved, and behind them those that the requests of 02 print, as one statement over one list of rows.
+-- The twelve examples that 01 marks to be proved, and behind them those that the requests of 02 that are built print,
+-- as one statement over one list of rows.
 use Prim.Native.Nat.{ℕ}
 use mathlib.Core.Path.{_≡_}
 use mathlib.Core.List.{List, [], _∷_}

@@ -5,17 +5,15 @@ use Prim.Native.Nat.{ℕ, zero, suc, _+_, _-_, _*_, _/_, _%_, _^_, _≤_, _<_, m
 use native.Mathlib.Nat.{mul-mod-left, le-refl, le-of-lt}
 use native.Mathlib.Decide.{decLe}
 use native.Mathlib.Omega.{arith}
-use borrow.Author.Tests.{eq-eqb, ne-eqb}
-use lib.Dec.{eqb, lit<}
+use lib.Dec.{lit<}
 use lib.ListN.{length, getD, length-append, length-map, List·getD-append}
-use lib.Pow.{recompose}
 use lib.Seq.{getD-append-add}
 use Rattle.runs.specs.Runs.{Bytes}
 use Rattle.runs.proofs.Bytes.{bytes-left, bytes-right}
 use Rattle.packing.specs.Seven.{sent, valueOf}
 use Rattle.packing.specs.Packed.{lastPlace, topsAfter, topsOf, packedGroup, packed}
-use Rattle.packing.specs.Unpacked.{joined, unusedClear}
-use Rattle.packing.specs.Claims.{topsWith, Placed, BitsPlaced, LowPlacesUnused}
+use Rattle.packing.specs.Unpacked.{joined}
+use Rattle.packing.specs.Claims.{topsWith, Placed, BitsPlaced}
 use Rattle.packing.proofs.Groups.{First, by-groups}
 use Rattle.packing.proofs.Tops.{lowSent, joined-tops, place-last, place-back, tops-back}
 use Rattle.packing.proofs.Group.{length-group, group-last}
@@ -133,20 +131,3 @@ bits-placed =
       | yes own ↦ here g r f h i l own
       | no past ↦ behind g r f h i l (omega arith) (ih (bytes-right g r h) (i - length g) (omega (arith, length-append g r)))
     ])
-
--- ---- what is tested
-
-pub low-places-unused : LowPlacesUnused
-unfolding unusedClear
-low-places-unused k v l h =
-    let place : ℕ = lastPlace k in
-    let own : ℕ = v / 2 ^ place % 2 ^ k * 2 ^ place in
-    let low : ℕ = v % 2 ^ place in
-    let seven : k + place ≡ 7 = omega (arith, place-last k l) in
-    let parts : own + low ≡ v = recompose k place (rw seven h) in
-    let tested : eqb own v ≡ eqb low 0 =
-    elim (decLe 1 low) [
-      | yes set ↦ ne-eqb own v (λ e. omega arith) ∙ sym (ne-eqb low 0 (λ e. omega arith))
-      | no clear ↦ eq-eqb own v (omega arith) ∙ sym (eq-eqb low 0 (omega arith))
-    ] in
-    tested ∙ ap (λ (n : ℕ). eqb (v % 2 ^ n) 0) (place-last k l)

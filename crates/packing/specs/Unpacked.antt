@@ -8,7 +8,7 @@ use lib.Dec.{eqb}
 use Rattle.packing.specs.Seven.{isSent, valueOf}
 use Rattle.packing.specs.Packed.{lastPlace}
 
--- the data bytes with the low bits that went out as the bytes of g and with the top bits t, the last byte's at place 0
+-- the data bytes with the low bits that went out as the bytes of g and with the top bits t, shifted so that the last byte's is at place 0
 unfoldable pub joined : ℕ → List ℕ → List ℕ
 joined t [] = []
 joined t (b ∷ g) = (valueOf b + 128 * (t / 2 ^ length g % 2)) ∷ joined t g

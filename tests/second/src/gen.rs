@@ -306,7 +306,7 @@ fn started_again(random: &mut Xorshift, wire: Wire) -> Vec<u8> {
     frame
 }
 
-/// The data damaged, stated length and check values put right: 13, or other data.
+/// The data damaged, stated length and check values put right: 13, other data, or the same where an old-style tail is no other.
 fn data_damaged(random: &mut Xorshift, wire: Wire) -> Vec<u8> {
     let mut bytes = content(random, wire);
     let header = match wire {
@@ -316,7 +316,7 @@ fn data_damaged(random: &mut Xorshift, wire: Wire) -> Vec<u8> {
         Wire::Expansion => 4,
     };
     if random.once_in(3) {
-        // The last packed byte: places that a short group does not use, or its top bits at those of 01.
+        // The last packed byte: places that a short group does not use, or its top bits at the places that 01 gave them.
         let old_style = wire == Wire::Pcs && random.once_in(2);
         let in_group = (bytes.len() - header + 7) % 8;
         if let Some(last) = bytes[header..].last_mut() {

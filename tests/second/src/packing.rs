@@ -19,8 +19,8 @@ pub fn seven_in(byte: u8) -> Option<u8> {
 }
 
 /// A group goes out as seven bits of each byte and one byte of top bits: the
-/// first byte of every group at place 6, each one behind it one place lower (02,
-/// wish 3). The places that a short group does not use are the low ones: 0.
+/// first byte of every group at place 6, each one behind it one place lower
+/// (request 3 of 02). The places that a short group does not use are the low ones: 0.
 pub fn pack(data: &[u8]) -> Vec<u8> {
     let mut packed = Vec::new();
     for group in data.chunks(7) {
@@ -92,7 +92,7 @@ mod tests {
 
     #[test]
     fn old_style_short_groups() {
-        assert_eq!(old_style(&[0x96, 0x64]), vec![22, 100, 2]); // 01's own
+        assert_eq!(old_style(&[0x96, 0x64]), vec![22, 100, 2]); // by 01's rule
         assert_eq!(old_style(&[0x80]), vec![128, 1]);
         assert_eq!(old_style(&[0x80; 7]), pack(&[0x80; 7]));
         assert_eq!(old_style(&[]), Vec::<u8>::new());

@@ -78,8 +78,8 @@ fn data_with(length: usize, tops: u64) -> Vec<u8> {
     (0..length).map(|k| (k as u64 + 1 + (tops >> k & 1) * 128) as u8).collect()
 }
 
-/// Every length of a last group with every pattern of top bits is packed, and every byte of top bits is unpacked
-/// behind a group of every length, with those that 01 made for a short one.
+/// Every length of a last group with every pattern of top bits is packed, and a group of every length is unpacked with
+/// every byte of top bits, among them those of 01's rule.
 fn groups(lines: &mut Lines) {
     for length in 1..=7 {
         for tops in 0..1 << length {
