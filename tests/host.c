@@ -123,8 +123,8 @@ static size_t pcs_frame_of(uint8_t k, uint8_t tops) {
     return CAST(size_t, 12) + k;
 }
 
-/* top bits read into byte j from place 6 - j, and written there again; 13 where a place below that of byte k - 1 is set. The store has the data
- * before what was gathered, or all of that */
+/* top bits read into byte j from place 6 - j, and written there again; 13 where a place below that of byte k - 1 is set. Afterwards the store holds
+ * what was gathered, and of an accepted frame the data in place of the first k bytes */
 static void pcs_group_read(uint8_t k, uint8_t tops) {
     uint8_t frame[20], left[18];
     fresh();

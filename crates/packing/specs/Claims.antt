@@ -1,5 +1,5 @@
 -- What is claimed of packing beyond the contracts of the functions: where each bit of the data stands, and when unpacking gives 13.
--- proofs/Places.antt proves it.
+-- proofs/Places.antt and proofs/Refused.antt prove it.
 use Prim.Native.Nat.{ℕ, suc, _+_, _-_, _*_, _/_, _%_, _^_, _<_, min}
 use mathlib.Core.Path.{_≡_}
 use mathlib.Core.Logic.{_↔_}

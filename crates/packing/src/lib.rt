@@ -65,19 +65,21 @@ fn pack_group(g: &[u8], out: &mut [u8], at: usize)
     out[at + j] = tops_sent(top, j);
 }
 
-// Stores the data, packed, from place at on, group by group.
+// Stores the data, packed, from place at on: the full groups, whose size the compiler then knows, and the short one.
 fn pack_all(data: &[u8], out: &mut [u8], at: usize)
     requires { ⌜ at + packedLength (length (now «data»)) ≤ length (now out) ⌝ }
     ensures { λ _. ⌜ now (out .exit) ≡ sets (now (out .entry)) at (packed (now («data» .entry))) ⌝ }
 {
     let mut i = 0;
     let mut n = 0;
-    while i < data.len() {
-        let k = least(7, data.len() - i);
-        let end = i + k;
+    while 7 <= data.len() - i {
+        let end = i + 7;
         pack_group(&data[i..end], out, at + n);
         i = end;
-        n = n + k + 1;
+        n += 8;
+    }
+    if i < data.len() {
+        pack_group(&data[i..], out, at + n);
     }
 }
 

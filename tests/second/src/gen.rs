@@ -306,7 +306,8 @@ fn started_again(random: &mut Xorshift, wire: Wire) -> Vec<u8> {
     frame
 }
 
-/// The data damaged, stated length and check values put right: 13, other data, or the same where an old-style tail is no other.
+/// The data damaged, stated length and check values put right: mostly 13 or other data, and the same where nothing
+/// changes, as by an old-style tail without a top bit.
 fn data_damaged(random: &mut Xorshift, wire: Wire) -> Vec<u8> {
     let mut bytes = content(random, wire);
     let header = match wire {

@@ -4,7 +4,7 @@ use Prim.Native.Nat.{ℕ, _+_, _-_, _≤_, _<_, min}
 use native.Mathlib.Omega.{arith}
 use borrow.Author.Needs.{needs}
 use lib.ListN.{length, drop, take, length-take, length-drop, drop-of-length-le}
-use lib.Seq.{drop-drop}
+use lib.Seq.{sets, drop-drop}
 use Rattle.runs.proofs.Run.{Run, run-start, run-part, run-end}
 use Rattle.packing.specs.Packed.{packed, packedLength, packedGroup}
 use Rattle.packing.proofs.Group.{length-group}
@@ -19,21 +19,22 @@ Inv-loop d out₀ at i₀ n₀ out i n = (i ≤ length d) × Run out₀ at (pack
 abbrev μ-loop : tie.MeasureT-loop
 μ-loop d out₀ at i₀ n₀ out i n = length d - i
 
--- the group of k bytes from place i on, as `&data[i..i + k]` has it
+-- the group from place i to place e, as `&data[i..e]` has it
 abbrev part : List ℕ → ℕ → ℕ → List ℕ
-part d i k = take (i + k - i) (drop i d)
+part d i e = take (e - i) (drop i d)
 
-module _ (d : List ℕ) (i k : ℕ) (more : i < length d) (e : k ≡ min 7 (length d - i)) where
-  part-length : length (part d i k) ≡ k
+module _ (d : List ℕ) (i e : ℕ) (more : i < e) (k : e - i ≡ min 7 (length d - i)) where
+  part-length : length (part d i e) ≡ e - i
   part-length = simp (length-take, length-drop) (omega arith)
 
-  part-next : packed (drop i d) ≡ packedGroup (part d i k) ++ packed (drop (i + k) d)
+  part-next : packed (drop i d) ≡ packedGroup (part d i e) ++ packed (drop e d)
   part-next =
-      let n : i + k - i ≡ k = omega arith in
-      rw n (packed-next k (drop i d) (omega arith) (rw length-drop e) ∙ ap (λ (l : List ℕ). packedGroup (take k (drop i d)) ++ packed l) (drop-drop k i d))
+      let n : i + (e - i) ≡ e = omega arith in
+      packed-next (e - i) (drop i d) (omega arith) (rw length-drop k)
+      ∙ ap (λ (l : List ℕ). packedGroup (part d i e) ++ packed l) (drop-drop (e - i) i d ∙ ap (λ (m : ℕ). drop m d) n)
 
 -- a group more has room: n bytes are stored for the first i of l data bytes
-room : (l i k n at m : ℕ) → i < l → k ≡ min 7 (l - i) → n + packedLength (l - i) ≡ packedLength l → at + packedLength l ≤ m → at + n + k < m
+room : (l i k n at m : ℕ) → 0 < k → k ≡ min 7 (l - i) → n + packedLength (l - i) ≡ packedLength l → at + packedLength l ≤ m → at + n + k < m
 room l i k n at m h e c f = omega arith
 
 abbrev D : tie.At-loop Inv-loop μ-loop → List ℕ
@@ -42,51 +43,83 @@ D a = a .before .before .before .args .«data» .now
 counts : (a : tie.At-loop Inv-loop μ-loop) → a .loop .n + packedLength (length (D a) - a .loop .i) ≡ packedLength (length (D a))
 counts a = rw (length-packed (drop (a .loop .i) (D a)), length-packed (D a), length-drop) at (a .loop .inv .1 .left)
 
--- the group at hand
-abbrev Group : tie.After-least Inv-loop μ-loop → List ℕ
-Group t = part (D (t .before .before)) (t .before .before .loop .i) (t .least .result)
+-- the group from the place at hand to place e, which is the next one
+module _ (a : tie.At-loop Inv-loop μ-loop) (e : ℕ) (more : a .loop .i < e) (k : e - a .loop .i ≡ min 7 (length (D a) - a .loop .i)) where
+  abbrev At : ℕ
+  At = a .before .before .before .args .at
 
-group-length : (t : tie.After-least Inv-loop μ-loop) → length (Group t) ≡ t .least .result
-group-length t = part-length (D (t .before .before)) (t .before .before .loop .i) (t .least .result) (t .before .loop-test .taken) (t .least .ensures)
+  abbrev Group : List ℕ
+  Group = part (D a) (a .loop .i) e
+
+  group-length : length Group ≡ e - a .loop .i
+  group-length = part-length (D a) (a .loop .i) e more k
+
+  -- it has at most seven bytes, and room
+  fits : (length Group ≤ 7) × (At + a .loop .n + length Group < length (a .loop .out))
+  fits =
+      let s = a .before .before .before in
+      let free : At + a .loop .n + (e - a .loop .i) < length (s .args .out .now) =
+      room (length (D a)) (a .loop .i) (e - a .loop .i) (a .loop .n) At _ (omega arith) k (counts a) (s .pre) in
+      (omega (arith, group-length), rw (group-length, a .loop .inv .1 .long) free)
+
+  -- with it stored, those of the data from e on are still to come
+  stored : (m : ℕ) (out : List ℕ) → m ≡ a .loop .n + (e - a .loop .i + 1) → out ≡ sets (a .loop .out) (At + a .loop .n) (packedGroup Group)
+      → Run (a .before .before .before .args .out .now) At (packed (D a)) m (packed (drop e (D a))) out
+  stored m out n o =
+      run-part (packedGroup Group) (a .loop .inv .1) (part-next (D a) (a .loop .i) e more k) (omega (arith, length-group Group, group-length)) o
 
 loop-holds : tie.Need-loop-holds Inv-loop μ-loop
 loop-holds c = (omega arith, run-start (rw length-packed (c .before .before .pre)) refl)
 
 add-pack-group : tie.Need-add-pack-group Inv-loop μ-loop
-add-pack-group c = omega (arith, counts (c .before .before .before .before))
+add-pack-group c = omega (arith, counts (c .before .before .before))
 
 pack-group-requires : tie.Need-pack-group-requires Inv-loop μ-loop
-pack-group-requires c κs =
-    let t = c .before .before in
-    let a = t .before .before in
-    let s = a .before .before .before in
-    (omega (arith, group-length t), rw (group-length t, a .loop .inv .1 .long) (room (length (D a)) (a .loop .i) (t .least .result) (a .loop .n) (s .args .at) _ (t .before .loop-test .taken) (t .least .ensures) (counts a) (s .pre)))
+pack-group-requires c κs = fits (c .before .before .before) (c .before .before .before .loop .i + 7) (omega arith) (omega arith)
 
 add-n : tie.Need-add-n Inv-loop μ-loop
-add-n c = omega (arith, counts (c .before .before .before .before .before .before .before))
-
-add-n-2 : tie.Need-add-n-2 Inv-loop μ-loop
-add-n-2 c = omega (arith, counts (c .before .before .before .before .before .before .before))
+add-n c = omega (arith, counts (c .before .before .before .before .before .before))
 
 loop-again : tie.Need-loop-again Inv-loop μ-loop
 loop-again c =
-    let t = c .before .before .before .before .before in
-    let a = t .before .before in (
-      search needs,
-      run-part (packedGroup (Group t)) (a .loop .inv .1)
-          (part-next (D a) (a .loop .i) (t .least .result) (t .before .loop-test .taken) (t .least .ensures))
-          (omega (arith, length-group (Group t), group-length t))
-          (c .before .before .pack-group .ensures),
-    )
+    let a = c .before .before .before .before .before .before in
+    (search needs, stored a (a .loop .i + 7) (omega arith) (omega arith) _ _ (omega arith) (c .before .before .pack-group .ensures))
+
+add-pack-group-2 : tie.Need-add-pack-group-2 Inv-loop μ-loop
+add-pack-group-2 c = omega (arith, counts (c .before .before .before .before))
+
+pack-group-requires-2 : tie.Need-pack-group-requires-2 Inv-loop μ-loop
+pack-group-requires-2 c κs =
+    let a = c .before .before .before .before in
+    fits a (length (D a)) (omega arith) (omega arith)
+
+-- the short group ends the run
+module _ (c : tie.After-slice-known3 Inv-loop μ-loop) where
+  abbrev A : tie.At-loop Inv-loop μ-loop
+  A = c .before .before .before .before .before .before .before
+
+  abbrev Out : List ℕ
+  Out = c .before .before .pack-group2 .last .1 .0
+
+  last : Run (A .before .before .before .args .out .now) (A .before .before .before .args .at) (packed (D A)) (A .loop .n + (length (D A) - A .loop .i + 1))
+      (packed (drop (length (D A)) (D A))) Out
+  last = stored A (length (D A)) (omega arith) (omega arith) _ Out refl (c .before .before .pack-group2 .ensures)
 
 same-length : tie.Need-same-length Inv-loop μ-loop
-same-length c = c .before .loop .inv .1 .long
+same-length c = last c .long
 
 returns : tie.Need-returns Inv-loop μ-loop
-returns c = run-end (c .before .loop .inv .1) (ap packed (drop-of-length-le (D (c .before)) (c .loop-test .left)) ∙ packed-nil)
+returns c = run-end (last c) (ap packed (drop-of-length-le (D (A c)) {i = length (D (A c))} (omega arith)) ∙ packed-nil)
+
+same-length-2 : tie.Need-same-length-2 Inv-loop μ-loop
+same-length-2 c = c .before .before .loop .inv .1 .long
+
+returns-2 : tie.Need-returns-2 Inv-loop μ-loop
+returns-2 c = run-end (c .before .before .loop .inv .1) (ap packed (drop-of-length-le (D (c .before .before)) (c .if1 .left)) ∙ packed-nil)
 
 pub pack-all-spec : {M : Type 1} → statement M
 pack-all-spec =
     tie.close
-    (tie.spec Inv-loop μ-loop loop-holds (λ c. search needs) (λ c κs. search needs) (λ c. search needs) (λ c. search needs) (λ c. search needs)
-    (λ c. search needs) add-pack-group pack-group-requires add-n add-n-2 (λ c. search needs) loop-again same-length returns)
+    (tie.spec Inv-loop μ-loop loop-holds (λ c. search needs) (λ c. search needs) (λ c. search needs) (λ c. search needs) (λ c. search needs)
+    add-pack-group pack-group-requires add-n (λ c. search needs) loop-again (λ c. search needs) (λ c. search needs) (λ c. search needs)
+    add-pack-group-2 pack-group-requires-2 same-length returns same-length-2 returns-2)
