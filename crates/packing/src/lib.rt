@@ -65,7 +65,7 @@ fn pack_group(g: &[u8], out: &mut [u8], at: usize)
     out[at + j] = tops_sent(top, j);
 }
 
-// Stores the data, packed, from place at on: the full groups, whose size the compiler then knows, and the short one.
+// Stores the data, packed, from place at on: the full groups, in a loop where the compiler knows their size, then the short one, if any.
 fn pack_all(data: &[u8], out: &mut [u8], at: usize)
     requires { ⌜ at + packedLength (length (now «data»)) ≤ length (now out) ⌝ }
     ensures { λ _. ⌜ now (out .exit) ≡ sets (now (out .entry)) at (packed (now («data» .entry))) ⌝ }
