@@ -11,6 +11,7 @@ use lib.Dec.{ltb}
 use lib.ListN.{length, getD, length-append, length-map, List·getD-append}
 use lib.Seq.{getD-append-add}
 use borrow.Author.Tests.{ltb-true, ltb-false}
+use Rattle.runs.proofs.Bytes.{map-at}
 use Rattle.checksum.specs.Crc.{shifts}
 use Rattle.checksum.specs.Tables.{Rows}
 use Rattle.checksum.proofs.Linear.{shifts-add, shifts-sum, shifts-split, shifts-none}
@@ -29,11 +30,6 @@ row (b ∷ bs) = row bs ++ map (bitXor b) (row bs)
 unfoldable pub laid : ℕ → ℕ → ℕ → ℕ → List ℕ
 laid p w zero n = []
 laid p w (suc k) n = row (bases p n w) ++ laid p w k (n - w)
-
-map-at : (f : ℕ → ℕ) (l : List ℕ) (i : ℕ) → i < length l → getD (map f l) i 0 ≡ f (getD l i 0)
-map-at f [] i h = absurd (not-suc-le-zero h)
-map-at f (x ∷ l) zero h = refl
-map-at f (x ∷ l) (suc i) h = map-at f l i (le-of-suc-le-suc h)
 
 row-length : (p n w : ℕ) → length (row (bases p n w)) ≡ 2 ^ w
 unfolding row bases

@@ -1,5 +1,5 @@
 -- Where each bit of the data stands.
-use mathlib.Core.Path.{_≡_, refl, sym, ap, _∙_}
+use mathlib.Core.Path.{_≡_, sym, ap, _∙_}
 use mathlib.Core.List.{List, [], _∷_, _++_, map}
 use Prim.Native.Nat.{ℕ, zero, suc, _+_, _-_, _*_, _/_, _%_, _^_, _≤_, _<_, min}
 use native.Mathlib.Nat.{mul-mod-left, le-refl, le-of-lt}
@@ -9,7 +9,7 @@ use lib.Dec.{lit<}
 use lib.ListN.{length, getD, length-append, length-map, List·getD-append}
 use lib.Seq.{getD-append-add}
 use Rattle.runs.specs.Runs.{Bytes}
-use Rattle.runs.proofs.Bytes.{bytes-left, bytes-right}
+use Rattle.runs.proofs.Bytes.{map-at, bytes-left, bytes-right}
 use Rattle.packing.specs.Seven.{sent, valueOf}
 use Rattle.packing.specs.Packed.{lastPlace, topsAfter, topsOf, packedGroup, packed}
 use Rattle.packing.specs.Unpacked.{joined}
@@ -31,11 +31,6 @@ joined-at t (b ∷ g) zero h =
 joined-at t (b ∷ g) (suc j) h =
     let e : suc (length g) - 1 - suc j ≡ length g - 1 - j = omega arith in
     rw e (joined-at t g j (omega arith))
-
-low-at : (g : List ℕ) (j : ℕ) → j < length g → getD (map lowSent g) j 0 ≡ lowSent (getD g j 0)
-low-at [] j h = absurd (omega arith)
-low-at (b ∷ g) zero h = refl
-low-at (b ∷ g) (suc j) h = low-at g j (omega arith)
 
 -- the top bit of byte j, counted from the last byte's
 bit-at : (g : List ℕ) (j : ℕ) → Bytes g → j < length g → topsAfter 0 g / 2 ^ (length g - 1 - j) % 2 ≡ getD g j 0 / 128
@@ -59,7 +54,7 @@ group-low : (g : List ℕ) (j : ℕ) → j < length g → getD (packedGroup g) j
 unfolding packedGroup
 group-low g j l =
     let long : length (map lowSent g) ≡ length g = length-map g lowSent in
-    List·getD-append (map lowSent g) (sent (topsOf g) ∷ []) 0 j (omega arith) ∙ low-at g j l
+    List·getD-append (map lowSent g) (sent (topsOf g) ∷ []) 0 j (omega arith) ∙ map-at lowSent g j l
 
 -- ---- in data of any length
 

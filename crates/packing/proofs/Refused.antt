@@ -1,7 +1,7 @@
 -- When unpacking is refused.
 use mathlib.Core.Path.{_≡_, refl, sym, ap, _∙_}
 use mathlib.Core.Logic.{_↔_}
-use mathlib.Core.Bool.{Bool, true, false, cond, _&&_, _||_, not}
+use mathlib.Core.Bool.{Bool, true, false, _&&_, _||_, not, false≢true}
 use mathlib.Core.List.{List}
 use Prim.Native.Nat.{ℕ, _+_, _-_, _*_, _/_, _%_, _^_, _≤_, _<_}
 use native.Mathlib.Nat.{mod-lt}
@@ -62,5 +62,5 @@ badly-packed-refused store from count = by-case (badlyPacked p) refl
     by-case false e =
         let d = unpacked-done store from count (dataInGroups p) (well-unpacks p (well-badly p ∙ ap not e)) in (
           λ h. absurd (let z : _≡_ {A = ℕ} 0 13 = ap faultOf (sym (ap (λ a. a .0) d) ∙ h) in omega arith),
-          λ h. absurd (let z : _≡_ {A = ℕ} 0 1 = ap (λ (b : Bool). cond b 1 0) h in omega arith),
+          λ h. absurd (false≢true h),
         )

@@ -41,4 +41,5 @@ badlyPacked p = not (allSent p) || eqb (length p % 8) 1 || lowPlaceSet p
 -- unpacking is refused with 13 exactly where the bytes, as far as they lie in the store, are badly packed
 abbrev pub BadlyPackedRefused : Type 0
 BadlyPackedRefused =
-    (store : List ℕ) (from count : ℕ) → (unpackedIn store from count .0 ≡ refused 13) ↔ (badlyPacked (take count (drop from store)) ≡ true)
+    (store : List ℕ) (from count : ℕ)
+    → (unpackedIn store from count .0 ≡ refused 13) ↔ (badlyPacked (take count (drop from store)) ≡ true)
