@@ -1,6 +1,7 @@
 /* Measures linebox against C in one run: the sides, the calls, their inputs and the rows. The opponents' libraries are named on the command line. */
 #include "../include/linebox.h"
 #include "measure.h"
+#include "parts.h"
 #include <dlfcn.h>
 #include <stdio.h>
 #include <stdlib.h>
@@ -38,7 +39,7 @@ WORK("CRC-32", 0, crc32, s->crc32(p, n))
 WORK("PCS sum", 0, sum, s->sum(p, n))
 WORK("PCS packing", 1, pack, s->pack(p, n, out, room))
 WORK("PCS unpacking", 0, unpack, unpacked(s, p, n))
-WORK("PCS write", 1, pcs_write, s->pcs_write(2, 250, 0, 4, 1, 1, p, n, out, room))
+WORK("PCS write", 1, pcs_write, s->pcs_write(2, 250, 0, 4, 1, 1, 0, p, n, out, room))
 WORK("MDU write", 1, mdu_write, s->mdu_write(13, p, n, out, room))
 WORK("DLE write", 1, dle_write, s->dle_write(7, 3, p, n, out, room))
 WORK("expansion write", 1, expansion_write, s->expansion_write(1, 0, 0, 5, p, n, out, room))
@@ -46,6 +47,13 @@ WORK("PCS read", 0, pcs_read, s->pcs_read(p, n, store, size))
 WORK("MDU read", 0, mdu_read, s->mdu_read(p, n, store, size))
 WORK("DLE read", 0, dle_read, s->dle_read(p, n, store, size))
 WORK("expansion read", 0, expansion_read, s->expansion_read(p, n, store, size))
+
+/* PCS with a CRC is written and read by the same functions. */
+static uint64_t pcs_write_crc_run(const struct side *s, const uint8_t *p, size_t n) {
+    return (uint64_t)s->pcs_write(2, 250, 0, 4, 1, 1, 1, p, n, out, room);
+}
+static const struct work pcs_write_crc_work = {"PCS write, CRC", 1, pcs_write_entry, pcs_write_crc_run};
+static const struct work pcs_read_crc_work = {"PCS read, CRC", 0, pcs_read_entry, pcs_read_run};
 
 /* A run in blocks, each from the value of the one before it; on linebox's side by the call of its C interface. */
 static uint64_t blocks_run(const struct side *s, const uint8_t *p, size_t n) {
@@ -56,7 +64,8 @@ static uint64_t blocks_run(const struct side *s, const uint8_t *p, size_t n) {
 }
 static const struct work blocks_work = {"CRC-16", 0, crc16_entry, blocks_run};
 
-static uint64_t state = 88172645463325252u;
+#define SEED 88172645463325252u
+static uint64_t state = SEED;
 static uint64_t next(void) { state ^= state << 13; state ^= state >> 7; state ^= state << 17; return state >> 16; }
 
 /* The inputs of a row, made of as many payloads: a branch predictor does not learn them by heart as it would one. */
@@ -66,8 +75,9 @@ enum { BODY = 8192 };
 static uint8_t memory[INPUTS][LONGEST];
 static struct input inputs[INPUTS];
 
-/* Payloads of n bytes, of any bytes or all of one. */
+/* Payloads of n bytes, of any bytes or all of one. The bytes of a row do not depend on the rows before it. */
 static void payloads(size_t n, int byte) {
+    state = SEED;
     for (int k = 0; k < INPUTS; k++) {
         for (size_t i = 0; i < n; i++) memory[k][i] = (uint8_t)(byte == ANY ? next() : (uint64_t)byte);
         inputs[k] = (struct input){memory[k], n};
@@ -83,6 +93,19 @@ static void made(const struct work *writer, size_t before) {
     }
 }
 
+/* Gives a damaged PCS frame the end that its info byte asks for, which half of the time is made another first: so that the tests behind the check
+ * values are reached, with a CRC and without. */
+static void pcs_mended(uint8_t *frame, size_t n) {
+    if (n < 11) return;
+    if (next() % 2) frame[3] = (uint8_t)(next() % 20);
+    int crc = pcs_has_crc(frame + 1, n - 2);
+    if (crc && n < 14) return;
+    size_t body = n - (crc ? 6 : 3);
+    frame[1 + body] = linebox.sum(frame + 1, body);
+    if (crc) pcs_put_crc(frame + 2 + body, linebox.crc16(0, frame + 1, body));
+    frame[n - 1] = 254;
+}
+
 /* The sides agree on the inputs damaged in some bytes, cut or lengthened, and in less memory too: so on what is refused. */
 static void damaged(const struct work *w, size_t least) {
     static uint8_t wrong[LONGEST + 1];
@@ -92,6 +115,7 @@ static void damaged(const struct work *w, size_t least) {
         for (size_t i = next() % 4; i > 0; i--) wrong[next() % n] = (uint8_t)(next() % 2 ? next() : next() % 2 ? 16 : 253 + next() % 3);
         if (next() % 4 == 0) n = least + next() % (n + 1 - least);
         else if (next() % 4 == 0) wrong[n++] = (uint8_t)next();
+        if (w->entry == pcs_read_entry && next() % 2) pcs_mended(wrong, n);
         room = next() % 4 ? sizeof out : next() % LONGEST;
         size = next() % 8 ? sizeof store : next() % sizeof store;
         start = (uint16_t)(k * 40503);
@@ -144,6 +168,8 @@ static void values(void) {
 static void frames(size_t n) {
     row("PCS write", &pcs_write_work, n, ANY);
     row_of("PCS read", &pcs_read_work, &pcs_write_work, n, ANY);
+    row("PCS write, CRC", &pcs_write_crc_work, n, ANY);
+    row_of("PCS read, CRC", &pcs_read_crc_work, &pcs_write_crc_work, n, ANY);
     row("MDU write", &mdu_write_work, n, ANY);
     row_of("MDU read", &mdu_read_work, &mdu_write_work, n, ANY);
     row("expansion write", &expansion_write_work, n, ANY);

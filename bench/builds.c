@@ -1,19 +1,19 @@
 /* Times two builds of linebox by turns in one process: of each call the earlier build's time over that of the present one. Each build reads what
- * it wrote itself, so that builds of two rules can be held against each other. */
+ * it wrote itself, so that builds of two rules can be held against each other. EARLIER_VERSION is the LINEBOX_VERSION of the earlier one. */
 #include "side.h"
 #include <stdio.h>
 #include <stdlib.h>
 #include <string.h>
 #include <time.h>
 
-/* A side whose calls have names that begin with p. */
-#define BUILD(side_name, p) \
+/* A side whose calls have names that begin with p. Its linebox_pcs_write has a crc of the type behind `write`; or it has none, and `write` is 0. */
+#define BUILD(side_name, p, write, ...) \
     uint16_t p##bench_crc16(uint16_t, const uint8_t *, size_t); \
     uint32_t p##bench_crc32(const uint8_t *, size_t); \
     uint8_t p##bench_sum(const uint8_t *, size_t); \
     size_t p##bench_pack(const uint8_t *, size_t, uint8_t *, size_t); \
     size_t p##bench_unpack(uint8_t *, size_t, size_t, size_t); \
-    int32_t p##linebox_pcs_write(uint8_t, uint8_t, uint8_t, uint8_t, uint8_t, uint8_t, const uint8_t *, size_t, uint8_t *, size_t); \
+    int32_t p##linebox_pcs_write(uint8_t, uint8_t, uint8_t, uint8_t, uint8_t, uint8_t, __VA_ARGS__ const uint8_t *, size_t, uint8_t *, size_t); \
     int32_t p##linebox_mdu_write(uint8_t, const uint8_t *, size_t, uint8_t *, size_t); \
     int32_t p##linebox_dle_write(uint8_t, uint8_t, const uint8_t *, size_t, uint8_t *, size_t); \
     int32_t p##linebox_expansion_write(uint8_t, uint8_t, uint8_t, uint8_t, const uint8_t *, size_t, uint8_t *, size_t); \
@@ -22,10 +22,14 @@
     uint64_t p##linebox_dle_read(const uint8_t *, size_t, uint8_t *, size_t); \
     uint64_t p##linebox_expansion_read(const uint8_t *, size_t, uint8_t *, size_t); \
     static const struct side side_name = {#side_name, p##bench_crc16, p##bench_crc32, p##bench_sum, p##bench_pack, p##bench_unpack, \
-        p##linebox_pcs_write, p##linebox_mdu_write, p##linebox_dle_write, p##linebox_expansion_write, \
+        write, p##linebox_mdu_write, p##linebox_dle_write, p##linebox_expansion_write, \
         p##linebox_pcs_read, p##linebox_mdu_read, p##linebox_dle_read, p##linebox_expansion_read};
-BUILD(earlier, earlier_)
-BUILD(present, )
+#if EARLIER_VERSION < 3000 /* no crc yet */
+BUILD(earlier, earlier_, 0, )
+#else
+BUILD(earlier, earlier_, earlier_linebox_pcs_write, uint8_t, )
+#endif
+BUILD(present, , linebox_pcs_write, uint8_t, )
 
 enum { INPUTS = 32, LONGEST = 2100, ROUNDS = 201 };
 static uint8_t out[4096], store[2048], inputs[2][INPUTS][LONGEST];
@@ -39,7 +43,7 @@ RUN(crc32, s->crc32(p, n))
 RUN(sum, s->sum(p, n))
 RUN(pack, s->pack(p, n, out, sizeof out))
 RUN(unpack, (memcpy(store + 8, p, n), s->unpack(store, sizeof store, 8, n))) /* behind a header, as in a frame */
-RUN(pcs_write, s->pcs_write(2, 250, 0, 4, 1, 1, p, n, out, sizeof out))
+RUN(pcs_write_crc, s->pcs_write(2, 250, 0, 4, 1, 1, 1, p, n, out, sizeof out))
 RUN(mdu_write, s->mdu_write(13, p, n, out, sizeof out))
 RUN(dle_write, s->dle_write(7, 3, p, n, out, sizeof out))
 RUN(expansion_write, s->expansion_write(1, 0, 0, 5, p, n, out, sizeof out))
@@ -47,6 +51,14 @@ RUN(pcs_read, s->pcs_read(p, n, store, sizeof store))
 RUN(mdu_read, s->mdu_read(p, n, store, sizeof store))
 RUN(dle_read, s->dle_read(p, n, store, sizeof store))
 RUN(expansion_read, s->expansion_read(p, n, store, sizeof store))
+
+/* Each build is called with its own parameters. */
+static uint64_t pcs_write_run(const struct side *s, const uint8_t *p, size_t n) {
+#if EARLIER_VERSION < 3000
+    if (s == &earlier) return (uint64_t)earlier_linebox_pcs_write(2, 250, 0, 4, 1, 1, p, n, out, sizeof out);
+#endif
+    return (uint64_t)s->pcs_write(2, 250, 0, 4, 1, 1, 0, p, n, out, sizeof out);
+}
 
 static double now(void) { struct timespec t; clock_gettime(CLOCK_MONOTONIC, &t); return (double)t.tv_sec * 1e9 + (double)t.tv_nsec; }
 
@@ -108,6 +120,8 @@ int main(void) {
         row("PCS unpacking", unpack_run, pack_run, n);
         row("PCS write", pcs_write_run, 0, n);
         row("PCS read", pcs_read_run, pcs_write_run, n);
+        if (EARLIER_VERSION >= 3000) row("PCS write, CRC", pcs_write_crc_run, 0, n);
+        if (EARLIER_VERSION >= 3000) row("PCS read, CRC", pcs_read_run, pcs_write_crc_run, n);
         row("MDU write", mdu_write_run, 0, n);
         row("MDU read", mdu_read_run, mdu_write_run, n);
         if (n < 256) row("DLE write", dle_write_run, 0, n);

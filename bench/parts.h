@@ -24,15 +24,24 @@ static inline void store8(uint8_t *p, uint64_t w) { memcpy(p, &w, 8); }
 /* The top bit of each byte of a word that is FD, FE or FF. */
 static inline uint64_t marks(uint64_t w) { return ((w & EACH(0x7F)) + EACH(3)) & w & EACH(0x80); }
 
-/* PCS: what is tested of a frame's fields, and the answer that they give. */
+/* PCS: what is tested of a frame's fields, and the answer that they give. Info is 4 and the kind added, and 8 more with a CRC. */
 static inline int pcs_plain(uint8_t b) { return b >= 1 && b <= 250; }
 static inline uint8_t pcs_sent(uint8_t v) { return v ? v : 128; }
 static inline int pcs_fields_ok(const uint8_t *g) {
-    return (pcs_plain(g[0]) || g[0] == 255) && pcs_plain(g[1]) && pcs_plain(g[3]) && pcs_plain(g[6]) && pcs_plain(g[7]) && g[2] >= 4 && g[2] <= 7
-           && g[4] >= 1 && g[4] <= 128 && g[5] >= 1 && g[5] <= 128;
+    return (pcs_plain(g[0]) || g[0] == 255) && pcs_plain(g[1]) && pcs_plain(g[3]) && pcs_plain(g[6]) && pcs_plain(g[7])
+           && (g[2] & 0xF4) == 4 && g[4] >= 1 && g[4] <= 128 && g[5] >= 1 && g[5] <= 128;
 }
 static inline uint64_t pcs_answer(const uint8_t *head, size_t n) {
-    return (uint64_t)n << 8 | (uint64_t)(head[2] - 4) << 20 | (uint64_t)head[0] << 24 | (uint64_t)head[1] << 32 | (uint64_t)head[3] << 40
-           | (uint64_t)head[6] << 48 | (uint64_t)head[7] << 56;
+    return (uint64_t)n << 8 | (uint64_t)(head[2] & 3) << 20 | (uint64_t)(head[2] >> 3 & 1) << 22 | (uint64_t)head[0] << 24 | (uint64_t)head[1] << 32
+           | (uint64_t)head[3] << 40 | (uint64_t)head[6] << 48 | (uint64_t)head[7] << 56;
 }
+
+/* PCS: whether n gathered bytes are a frame with a CRC, and how a CRC is sent. */
+static inline int pcs_has_crc(const uint8_t *g, size_t n) { return n >= 3 && (g[2] & 0xFC) == 12; }
+static inline void pcs_put_crc(uint8_t *p, uint16_t c) {
+    p[0] = pcs_sent(c & 127);
+    p[1] = pcs_sent(c >> 7 & 127);
+    p[2] = pcs_sent((uint8_t)(c >> 14));
+}
+static inline int pcs_same_crc(const uint8_t *p, uint16_t c) { uint8_t sent[3]; pcs_put_crc(sent, c); return !memcmp(p, sent, 3); }
 #endif

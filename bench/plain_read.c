@@ -2,11 +2,12 @@
 #include "parts.h"
 
 static uint64_t pcs_end(uint8_t *g, size_t n, int exact) {
-    if (n < 9) return 6;
-    if (g[2] >= 12 && g[2] <= 15) return 11;
-    if (g[n - 1] != sum_bytes(g, n - 1)) return 8;
-    size_t stated = (size_t)(g[4] & 127) * 128 + (g[5] & 127), k = n - 9;
-    if (!pcs_fields_ok(g) || (g[2] > 5 && stated)) return 9;
+    int crc = pcs_has_crc(g, n);
+    if (n < (crc ? 12 : 9)) return 6;
+    if (!crc && n > 1180) return 5;
+    size_t body = n - (crc ? 4 : 1), k = body - 8, stated = (size_t)(g[4] & 127) * 128 + (g[5] & 127);
+    if (g[body] != sum_bytes(g, body) || (crc && !pcs_same_crc(g + body + 1, crc16_table(0, g, body)))) return 8;
+    if (!pcs_fields_ok(g) || ((g[2] & 2) && stated)) return 9;
     if (stated != k) return 10;
     uint8_t head[8];
     memcpy(head, g, 8);
@@ -16,14 +17,14 @@ static uint64_t pcs_end(uint8_t *g, size_t n, int exact) {
 }
 
 uint64_t plain_pcs_read(const uint8_t *frame, size_t n, uint8_t *store, size_t size) {
-    if (size < 1180) return 1;
+    if (size < 1183) return 1;
     int open = 0; size_t count = 0, noise = 0;
     for (size_t i = 0; i < n; i++) {
         uint8_t b = frame[i];
         if (!open) { if (b == 253) open = 1; else noise++; continue; }
         if (b == 253) return 4;
         if (b == 254) return pcs_end(store, count, i + 1 == n && noise == 0);
-        if (count == 1180) return 5;
+        if (count == 1183) return 5;
         store[count++] = b;
     }
     return 6;

@@ -4,11 +4,12 @@
 static size_t least(size_t a, size_t b) { return a < b ? a : b; }
 
 static uint64_t pcs_end(uint8_t *g, size_t n, int exact) {
-    if (n < 9) return 6;
-    if (g[2] >= 12 && g[2] <= 15) return 11;
-    if (g[n - 1] != sum_words(g, n - 1)) return 8;
-    size_t stated = (size_t)(g[4] & 127) * 128 + (g[5] & 127), k = n - 9;
-    if (!pcs_fields_ok(g) || (g[2] > 5 && stated)) return 9;
+    int crc = pcs_has_crc(g, n);
+    if (n < (crc ? 12 : 9)) return 6;
+    if (!crc && n > 1180) return 5;
+    size_t body = n - (crc ? 4 : 1), k = body - 8, stated = (size_t)(g[4] & 127) * 128 + (g[5] & 127);
+    if (g[body] != sum_words(g, body) || (crc && !pcs_same_crc(g + body + 1, crc16_slices(0, g, body)))) return 8;
+    if (!pcs_fields_ok(g) || ((g[2] & 2) && stated)) return 9;
     if (stated != k) return 10;
     uint8_t head[8];
     memcpy(head, g, 8);
@@ -18,16 +19,16 @@ static uint64_t pcs_end(uint8_t *g, size_t n, int exact) {
 }
 
 uint64_t runs_pcs_read(const uint8_t *frame, size_t n, uint8_t *store, size_t size) {
-    if (size < 1180) return 1;
+    if (size < 1183) return 1;
     const uint8_t *p = n ? memchr(frame, 253, n) : 0, *end = frame + n;
     if (!p++) return 6;
-    size_t most = least((size_t)(end - p), 1181);
+    size_t most = least((size_t)(end - p), 1184);
     const uint8_t *stop = memchr(p, 254, most), *again = memchr(p, 253, stop ? (size_t)(stop - p) : most);
     size_t count = (size_t)((again ? again : stop ? stop : p + most) - p);
-    memcpy(store, p, least(count, 1180));
+    memcpy(store, p, least(count, 1183));
     if (again) return 4;
     if (stop) return pcs_end(store, count, stop + 1 == end && *frame == 253);
-    return count > 1180 ? 5 : 6;
+    return count > 1183 ? 5 : 6;
 }
 
 uint64_t runs_mdu_read(const uint8_t *frame, size_t n, uint8_t *store, size_t size) {

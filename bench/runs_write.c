@@ -2,17 +2,19 @@
 #include "parts.h"
 
 int32_t runs_pcs_write(uint8_t receiver, uint8_t sender, uint8_t kind, uint8_t number, uint8_t sender_port, uint8_t receiver_port,
-                       const uint8_t *data, size_t n, uint8_t *out, size_t room) {
-    size_t k = n + (n + 6) / 7;
-    uint8_t head[8] = {receiver, sender, (uint8_t)(4 + kind), number, pcs_sent(k >> 7 & 127), pcs_sent(k & 127), sender_port, receiver_port};
-    if (kind > 3 || n > 1024 || (kind > 1 && n) || !pcs_fields_ok(head)) return -3;
-    if (room < k + 11) return -2;
+                       uint8_t crc, const uint8_t *data, size_t n, uint8_t *out, size_t room) {
+    size_t k = n + (n + 6) / 7, length = k + (crc ? 14 : 11);
+    uint8_t info = (uint8_t)(4 + kind + 8 * crc);
+    uint8_t head[8] = {receiver, sender, info, number, pcs_sent(k >> 7 & 127), pcs_sent(k & 127), sender_port, receiver_port};
+    if (kind > 3 || crc > 1 || n > 1024 || (kind > 1 && n) || !pcs_fields_ok(head)) return -3;
+    if (room < length) return -2;
     out[0] = 253;
     memcpy(out + 1, head, 8);
     pack_words(data, n, out + 9, k);
     out[9 + k] = sum_words(out + 1, 8 + k);
-    out[10 + k] = 254;
-    return (int32_t)(k + 11);
+    if (crc) pcs_put_crc(out + 10 + k, crc16_slices(0, out + 1, 8 + k));
+    out[length - 1] = 254;
+    return (int32_t)length;
 }
 
 int32_t runs_mdu_write(uint8_t address, const uint8_t *body, size_t n, uint8_t *out, size_t room) {

@@ -14,7 +14,7 @@ struct side {
     size_t (*pack)(const uint8_t *data, size_t n, uint8_t *out, size_t room);               /* 0: no room */
     size_t (*unpack)(uint8_t *store, size_t size, size_t from, size_t count);               /* 0: badly packed */
     int32_t (*pcs_write)(uint8_t receiver, uint8_t sender, uint8_t kind, uint8_t number, uint8_t sender_port, uint8_t receiver_port,
-                         const uint8_t *data, size_t n, uint8_t *out, size_t room);
+                         uint8_t crc, const uint8_t *data, size_t n, uint8_t *out, size_t room);
     int32_t (*mdu_write)(uint8_t address, const uint8_t *body, size_t n, uint8_t *out, size_t room);
     int32_t (*dle_write)(uint8_t sequence, uint8_t node, const uint8_t *data, size_t n, uint8_t *out, size_t room);
     int32_t (*expansion_write)(uint8_t id, uint8_t type, uint8_t repeat, uint8_t address, const uint8_t *data, size_t n, uint8_t *out, size_t room);

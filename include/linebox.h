@@ -1,7 +1,7 @@
 /*
  * linebox: frames of four serial links, written and read, and a check value that is carried on block by block.
  *
- *   PCS        boards on one bus; 253 .. 254, data packed into seven bits a byte, one sum byte
+ *   PCS        boards on one bus; 253 .. 254, data packed into seven bits a byte, a sum byte, with or without a 16-bit CRC
  *   MDU        E3 01 with a stated length, a header sum and a 16-bit CRC
  *   DLE        10 02 .. 10 03 (hex), a 10 between the marks is doubled, no check value
  *   expansion  FD .. FE (hex), the marks are escaped by FF, a 32-bit CRC
@@ -30,12 +30,16 @@ extern "C" {
 #endif
 
 /* The version of this interface: 1,000 times the major number, and the minor one. The minor number grows with what is added
- * here, the major one when something that stood here changes: a number, a name, or what a call answers or leaves for some
- * arguments. The library carries no number of its own: link the one that was built beside this header.
+ * here, the major one when something that stood here changes: a number, a name, a call's parameters, or what a call answers or
+ * leaves for some arguments. The library carries no number of its own: link the one that was built beside this header.
  * 1001 added linebox_crc16. 2000 moved the top bits of a PCS frame's last group where that is shorter than seven bytes. A frame
  * that has them where they stood before is refused with LINEBOX_BADLY_PACKED or, with four to six bytes in that group, may be
- * read as other data. Where the last group is full or has no byte above 127, nothing moved. */
-#define LINEBOX_VERSION 2000
+ * read as other data. Where the last group is full or has no byte above 127, nothing moved.
+ * 3000 brought PCS frames with a CRC. linebox_pcs_write takes crc before the data; 0 gives the frame that it wrote until then.
+ * LINEBOX_PCS_STORE and LINEBOX_PCS_LONGEST grew by 3. Frames with a CRC are read, and told by linebox_pcs_crc; the number that
+ * they were refused with, LINEBOX_CRC_ASKED, is gone. Of a PCS frame up to 1,183 bytes are gathered, no longer 1,180, so one
+ * without a CRC and with 1,181 to 1,183 bytes between its marks is refused at its end. */
+#define LINEBOX_VERSION 3000
 
 /* ---- Refusals: why a call was not done. 0 is no refusal. */
 enum {
@@ -46,10 +50,10 @@ enum {
     LINEBOX_TOO_LONG = 5,       /* read: more bytes in the frame than the link allows (not on MDU) */
     LINEBOX_TOO_SHORT = 6,      /* read: the frame ends too early, or the bytes are not one whole frame */
     LINEBOX_WRONG_CODE = 7,     /* read: an escape that means nothing (DLE, expansion) */
-    LINEBOX_WRONG_CHECK = 8,    /* read: a sum or a CRC differs (not on DLE) */
+    LINEBOX_WRONG_CHECK = 8,    /* read: a sum or a CRC differs, on PCS either of the two (not on DLE) */
     LINEBOX_WRONG_FIELD = 9,    /* read: a field with a value that is not allowed (not on DLE) */
     LINEBOX_WRONG_LENGTH = 10,  /* read: the stated length is wrong (not on expansion) */
-    LINEBOX_CRC_ASKED = 11,     /* read: a PCS frame that asks for a CRC, which is not supported */
+    /* 11 is withdrawn: no call answers it */
     LINEBOX_UNKNOWN_STATE = 12, /* a receiver's state is not one; no function of this header gives it */
     LINEBOX_BADLY_PACKED = 13   /* read: PCS data that is not packed by the rules */
 };
@@ -64,7 +68,7 @@ enum {
 
 /* The longest frame of each link, in wire bytes: some message takes as many. LINEBOX_LONGEST is enough on every link, and the
  * bound that is proved; the others are added up from the rules and tried. */
-#define LINEBOX_PCS_LONGEST 1182       /* two marks, 8 of header, 1,171 that carry 1,024 of data, the sum */
+#define LINEBOX_PCS_LONGEST 1185       /* two marks, 8 of header, 1,171 that carry 1,024 of data, the sum, the CRC of 3 */
 #define LINEBOX_MDU_LONGEST 1033       /* 6 of header, the body, the CRC of 2 */
 #define LINEBOX_DLE_LONGEST 519        /* two marks of 2; sequence, node and data doubled, 514; the length, 255, is not */
 #define LINEBOX_EXPANSION_LONGEST 2064 /* two marks; id, address, data and the CRC escaped, 2,060; type and repeat are not */
@@ -77,7 +81,11 @@ enum {
 #define LINEBOX_EXPANSION_MAX_DATA 1024
 
 /* receiver 1 to 250, or 255 for all; sender, number, sender_port and receiver_port 1 to 250; kind one of
- * LINEBOX_PCS_..; data of 0 to 1,024 bytes, and none with the two acknowledgements. */
+ * LINEBOX_PCS_..; crc 0 or 1; data of 0 to 1,024 bytes, and none with the two acknowledgements.
+ * crc is 1 for a frame that carries a 16-bit CRC behind its sum, 0 for one with the sum alone. Set it to 1 for boards that work
+ * with a CRC, and only for those: no call finds out whether a board understands it. PCS advises it for frames of more than 64
+ * bytes, but any message may have it, an acknowledgement too. A frame is three bytes longer with it. A crc above 1 is
+ * unsendable: where a flag may be any number, hand over flag != 0. */
 enum {
     LINEBOX_PCS_PLAIN = 0,
     LINEBOX_PCS_ASKS = 1,     /* asks for an acknowledgement */
@@ -85,7 +93,8 @@ enum {
     LINEBOX_PCS_NEGATIVE = 3  /* negative acknowledgement */
 };
 int32_t linebox_pcs_write(uint8_t receiver, uint8_t sender, uint8_t kind, uint8_t number, uint8_t sender_port,
-                          uint8_t receiver_port, const uint8_t *data, size_t data_len, uint8_t *out, size_t out_len);
+                          uint8_t receiver_port, uint8_t crc, const uint8_t *data, size_t data_len, uint8_t *out,
+                          size_t out_len);
 
 /* address 1 to 255; body, that is the type byte and then the data, of 1 to 1,025 bytes. */
 int32_t linebox_mdu_write(uint8_t address, const uint8_t *body, size_t body_len, uint8_t *out, size_t out_len);
@@ -114,7 +123,8 @@ int32_t linebox_expansion_write(uint8_t id, uint8_t type, uint8_t repeat, uint8_
  *   bits  0 to 7    the number of the refusal, and then every other bit is 0; or 0: a message was read, and
  *   bits  8 to 19   the length of its data in bytes
  *   bits 20 to 21   PCS: the kind; DLE: 1 for an error message, else 0; MDU and expansion: 0
- *   bits 22 to 23   0
+ *   bit  22         PCS: 1 for a frame with a CRC, else 0; MDU, DLE and expansion: 0
+ *   bit  23         0
  *   bits 24 to 63   its fields, one byte each, from bit 24 on:
  *                   PCS        receiver, sender, number, sender's port, receiver's port
  *                   MDU        address
@@ -136,9 +146,18 @@ int32_t linebox_expansion_write(uint8_t id, uint8_t type, uint8_t repeat, uint8_
  * After LINEBOX_WRONG_CHECK on the expansion link store[0] is the id and store[3] the address as they arrived, for a reply of
  * type LINEBOX_EXPANSION_CHECK_ERROR.
  *
+ * PCS frames with and without a CRC are read by the same call, and linebox_pcs_crc tells which it was. The frame itself says so
+ * by the third byte behind its start mark: 12 to 15 is a frame with a CRC, any other value one without. A byte that would be
+ * number 1,184 between the marks is LINEBOX_TOO_LONG at once, with a CRC or without. At the end mark:
+ *
+ *   LINEBOX_TOO_SHORT    with fewer than 9 bytes between the marks, or fewer than 12 in a frame with a CRC; else
+ *   LINEBOX_TOO_LONG     with more than 1,180 bytes in a frame without a CRC, even where its sum is right; else
+ *   LINEBOX_WRONG_CHECK  where the sum, or one of the three bytes of a CRC, is not as the writer sends it: a 0 is not a 128
+ *   then LINEBOX_WRONG_FIELD, LINEBOX_WRONG_LENGTH and LINEBOX_BADLY_PACKED; the stated length never counts the CRC
+ *
  * A frame is read as exactly the message that the writer makes that frame of, and nothing else is read as a message.
  */
-#define LINEBOX_PCS_STORE 1180
+#define LINEBOX_PCS_STORE 1183
 #define LINEBOX_MDU_STORE 1033
 #define LINEBOX_DLE_STORE 258
 #define LINEBOX_EXPANSION_STORE 1032
@@ -168,8 +187,10 @@ static inline unsigned linebox_kind(uint64_t r) { return r >> 20 & 3; }
 /* field number i, 0 to 4: a higher i is not allowed */
 static inline uint8_t linebox_field(uint64_t r, unsigned i) { return r >> (24 + 8 * i) & 0xFF; }
 
-/* PCS: the kind, one of LINEBOX_PCS_.., and the five fields as linebox_pcs_write takes them */
+/* PCS: the kind, one of LINEBOX_PCS_..; crc, 1 where the frame had a CRC and else 0, and the five fields, as linebox_pcs_write
+ * takes them */
 static inline unsigned linebox_pcs_kind(uint64_t r) { return linebox_kind(r); }
+static inline uint8_t linebox_pcs_crc(uint64_t r) { return r >> 22 & 1; }
 static inline uint8_t linebox_pcs_receiver(uint64_t r) { return linebox_field(r, 0); }
 static inline uint8_t linebox_pcs_sender(uint64_t r) { return linebox_field(r, 1); }
 static inline uint8_t linebox_pcs_number(uint64_t r) { return linebox_field(r, 2); }
@@ -191,7 +212,7 @@ static inline uint8_t linebox_expansion_type(uint64_t r) { return linebox_field(
 static inline uint8_t linebox_expansion_repeat(uint64_t r) { return linebox_field(r, 2); }
 static inline uint8_t linebox_expansion_address(uint64_t r) { return linebox_field(r, 3); }
 
-/* ---- The 16-bit check value, MDU's CRC (A001, reflected), carried on from one block to the next
+/* ---- The 16-bit check value, the CRC of MDU and PCS (A001, reflected), carried on from one block to the next
  *
  * Answers the value after `len` bytes when `start` is the value before them; with a length of 0 that is `start` itself. It
  * refuses nothing, and writes nothing. A run that comes in blocks takes one call a block: the first from the start of the whole
@@ -204,8 +225,10 @@ static inline uint8_t linebox_expansion_address(uint64_t r) { return linebox_fie
  *     if (ferror(file)) ... the value is that of a part of the file
  *
  * However the run is cut, with empty blocks or without, the last value is that of one call on the whole run from the same
- * start. On MDU the start is 0, and the run is the body: the value stands behind it in the frame, high byte first. A writer or
- * a read of a frame works it out by itself and needs no call of this.
+ * start. On MDU the start is 0, and the run is the body: the value stands behind it in the frame, high byte first. On PCS the
+ * start is 0 too, and the run is what the sum is over: the bytes as sent, from the receiver's address through the packed data.
+ * The value stands behind the sum in three bytes, its lowest seven bits, the next seven, the top two, each 0 sent as 128. A
+ * writer or a read of a frame works it out by itself and needs no call of this.
  */
 uint16_t linebox_crc16(uint16_t start, const uint8_t *bytes, size_t len);
 

@@ -46,7 +46,7 @@ static const uint8_t acknowledgement[] = {253, 250, 101, 6, 2, 128, 128, 1, 1, 1
 
 static void pcs_reads_back(void) {
     fresh();
-    int32_t n = linebox_pcs_write(250, 101, LINEBOX_PCS_POSITIVE, 2, 1, 1, NULL, 0, out, sizeof out);
+    int32_t n = linebox_pcs_write(250, 101, LINEBOX_PCS_POSITIVE, 2, 1, 1, 0, NULL, 0, out, sizeof out);
     CHECK(n == CAST(int32_t, sizeof acknowledgement) && !memcmp(out, acknowledgement, sizeof acknowledgement));
     CHECK(kept(out, sizeof acknowledgement, sizeof out));
     uint64_t r = linebox_pcs_read(acknowledgement, sizeof acknowledgement, store, LINEBOX_PCS_STORE);
@@ -55,10 +55,10 @@ static void pcs_reads_back(void) {
     CHECK(kept(store, LINEBOX_PCS_STORE, sizeof store));
 
     /* all fields differ; every data byte, and the longest data */
-    n = linebox_pcs_write(255, 2, LINEBOX_PCS_ASKS, 3, 4, 5, data, 1024, out, sizeof out);
+    n = linebox_pcs_write(255, 2, LINEBOX_PCS_ASKS, 3, 4, 5, 0, data, 1024, out, sizeof out);
     CHECK(n == 1182);
     r = linebox_pcs_read(out, CAST(size_t, n), store, LINEBOX_PCS_STORE);
-    CHECK(linebox_refusal(r) == 0 && linebox_length(r) == 1024 && linebox_pcs_kind(r) == LINEBOX_PCS_ASKS);
+    CHECK(linebox_refusal(r) == 0 && linebox_length(r) == 1024 && linebox_pcs_kind(r) == LINEBOX_PCS_ASKS && linebox_pcs_crc(r) == 0);
     CHECK(linebox_pcs_receiver(r) == 255 && linebox_pcs_sender(r) == 2 && linebox_pcs_number(r) == 3);
     CHECK(linebox_pcs_sender_port(r) == 4 && linebox_pcs_receiver_port(r) == 5);
     CHECK(!memcmp(store + LINEBOX_PCS_DATA, data, 1024));
@@ -67,19 +67,19 @@ static void pcs_reads_back(void) {
 /* may not be sent, then does not fit; nothing is written */
 static void pcs_not_written(void) {
     fresh();
-    CHECK(linebox_pcs_write(0, 2, 0, 3, 4, 5, data, 1, out, sizeof out) == -LINEBOX_UNSENDABLE);
-    CHECK(linebox_pcs_write(251, 2, 0, 3, 4, 5, data, 1, out, sizeof out) == -LINEBOX_UNSENDABLE);
-    CHECK(linebox_pcs_write(1, 255, 0, 3, 4, 5, data, 1, out, sizeof out) == -LINEBOX_UNSENDABLE);
-    CHECK(linebox_pcs_write(1, 2, 4, 3, 4, 5, data, 1, out, sizeof out) == -LINEBOX_UNSENDABLE);
-    CHECK(linebox_pcs_write(1, 2, 0, 0, 4, 5, data, 1, out, sizeof out) == -LINEBOX_UNSENDABLE);
-    CHECK(linebox_pcs_write(1, 2, 0, 3, 0, 5, data, 1, out, sizeof out) == -LINEBOX_UNSENDABLE);
-    CHECK(linebox_pcs_write(1, 2, 0, 3, 4, 251, data, 1, out, sizeof out) == -LINEBOX_UNSENDABLE);
-    CHECK(linebox_pcs_write(1, 2, 0, 3, 4, 5, data, 1025, NULL, 0) == -LINEBOX_UNSENDABLE);
-    CHECK(linebox_pcs_write(1, 2, 3, 3, 4, 5, data, 1, out, sizeof out) == -LINEBOX_UNSENDABLE);
-    CHECK(linebox_pcs_write(1, 2, 0, 3, 4, 5, data, 1, out, 12) == -LINEBOX_OUTPUT_SHORT);
-    CHECK(linebox_pcs_write(1, 2, 0, 3, 4, 5, NULL, 0, NULL, 0) == -LINEBOX_OUTPUT_SHORT);
+    CHECK(linebox_pcs_write(0, 2, 0, 3, 4, 5, 0, data, 1, out, sizeof out) == -LINEBOX_UNSENDABLE);
+    CHECK(linebox_pcs_write(251, 2, 0, 3, 4, 5, 0, data, 1, out, sizeof out) == -LINEBOX_UNSENDABLE);
+    CHECK(linebox_pcs_write(1, 255, 0, 3, 4, 5, 0, data, 1, out, sizeof out) == -LINEBOX_UNSENDABLE);
+    CHECK(linebox_pcs_write(1, 2, 4, 3, 4, 5, 0, data, 1, out, sizeof out) == -LINEBOX_UNSENDABLE);
+    CHECK(linebox_pcs_write(1, 2, 0, 0, 4, 5, 0, data, 1, out, sizeof out) == -LINEBOX_UNSENDABLE);
+    CHECK(linebox_pcs_write(1, 2, 0, 3, 0, 5, 0, data, 1, out, sizeof out) == -LINEBOX_UNSENDABLE);
+    CHECK(linebox_pcs_write(1, 2, 0, 3, 4, 251, 0, data, 1, out, sizeof out) == -LINEBOX_UNSENDABLE);
+    CHECK(linebox_pcs_write(1, 2, 0, 3, 4, 5, 0, data, 1025, NULL, 0) == -LINEBOX_UNSENDABLE);
+    CHECK(linebox_pcs_write(1, 2, 3, 3, 4, 5, 0, data, 1, out, sizeof out) == -LINEBOX_UNSENDABLE);
+    CHECK(linebox_pcs_write(1, 2, 0, 3, 4, 5, 0, data, 1, out, 12) == -LINEBOX_OUTPUT_SHORT);
+    CHECK(linebox_pcs_write(1, 2, 0, 3, 4, 5, 0, NULL, 0, NULL, 0) == -LINEBOX_OUTPUT_SHORT);
     CHECK(kept(out, 0, sizeof out));
-    CHECK(linebox_pcs_write(1, 2, 0, 3, 4, 5, data, 1, out, 13) == 13 && kept(out, 13, sizeof out));
+    CHECK(linebox_pcs_write(1, 2, 0, 3, 4, 5, 0, data, 1, out, 13) == 13 && kept(out, 13, sizeof out));
 }
 
 static void pcs_refused(void) {
@@ -92,8 +92,8 @@ static void pcs_refused(void) {
     memcpy(bad, acknowledgement, sizeof bad);
     bad[9] ^= 1;
     CHECK(linebox_pcs_read(bad, 11, store, sizeof store) == LINEBOX_WRONG_CHECK);
-    bad[3] = 12;
-    CHECK(linebox_pcs_read(bad, 11, store, sizeof store) == LINEBOX_CRC_ASKED);
+    bad[3] = 12; /* a frame with a CRC has three bytes more */
+    CHECK(linebox_pcs_read(bad, 11, store, sizeof store) == LINEBOX_TOO_SHORT);
     bad[5] = 253;
     CHECK(linebox_pcs_read(bad, 11, store, sizeof store) == LINEBOX_NEW_START);
     static const uint8_t field[] = {253, 251, 101, 6, 2, 128, 128, 1, 1, 106, 254};
@@ -108,19 +108,31 @@ static void pcs_refused(void) {
     CHECK(linebox_pcs_read(longer, sizeof longer, store, sizeof store) == LINEBOX_TOO_LONG);
 }
 
+/* seven bits as PCS sends them */
+static uint8_t sent(unsigned v) { return CAST(uint8_t, v ? v : 128); }
+
+/* puts the sum of frame[1] to frame[n], with a CRC its three bytes too, and the end mark behind them; answers how long the frame is */
+static size_t pcs_closed(uint8_t *frame, size_t n, int crc) {
+    unsigned sum = 0, c = linebox_crc16(0, frame + 1, n);
+    for (size_t i = 1; i <= n; i++) sum = (sum + frame[i]) % 256;
+    frame[++n] = sent(sum > 250 ? sum - 128 : sum);
+    if (crc) {
+        frame[++n] = sent(c % 128);
+        frame[++n] = sent(c / 128 % 128);
+        frame[++n] = sent(c / 16384);
+    }
+    frame[++n] = 254;
+    return n + 1;
+}
+
 /* the frame of the packed bytes 1 to k and behind them one of top bits, with its sum; answers how long it is */
 static size_t pcs_frame_of(uint8_t k, uint8_t tops) {
     static const uint8_t header[] = {253, 1, 1, 4, 1, 128, 0, 1, 1};
-    uint8_t sum = 0;
     memcpy(out, header, sizeof header);
     out[6] = CAST(uint8_t, k + 1);
     for (uint8_t j = 0; j < k; j++) out[9 + j] = CAST(uint8_t, j + 1);
-    out[9 + k] = CAST(uint8_t, tops ? tops : 128);
-    for (uint8_t j = 1; j < 10 + k; j++) sum = CAST(uint8_t, sum + out[j]);
-    if (sum > 250) sum = CAST(uint8_t, sum - 128);
-    out[10 + k] = CAST(uint8_t, sum ? sum : 128);
-    out[11 + k] = 254;
-    return CAST(size_t, 12) + k;
+    out[9 + k] = sent(tops);
+    return pcs_closed(out, CAST(size_t, 9) + k, 0);
 }
 
 /* top bits read into byte j from place 6 - j, and written there again; 13 where a place below that of byte k - 1 is set. Afterwards the store holds
@@ -139,7 +151,7 @@ static void pcs_group_read(uint8_t k, uint8_t tops) {
     for (uint8_t j = 0; j < k; j++) left[j] = CAST(uint8_t, (j + 1) + 128 * (tops >> (6 - j) & 1));
     CHECK(linebox_refusal(r) == 0 && linebox_length(r) == k && holds(store, left, n - 2, sizeof store));
     fresh();
-    CHECK(linebox_pcs_write(1, 1, LINEBOX_PCS_PLAIN, 1, 1, 1, left, k, out, sizeof out) == CAST(int32_t, n) && holds(out, frame, n, sizeof out));
+    CHECK(linebox_pcs_write(1, 1, LINEBOX_PCS_PLAIN, 1, 1, 1, 0, left, k, out, sizeof out) == CAST(int32_t, n) && holds(out, frame, n, sizeof out));
 }
 
 /* every length of a last group, with every byte of top bits */
@@ -150,8 +162,207 @@ static void pcs_last_groups(void) {
     static const uint8_t fare[] = {0x96, 0x64}, frame[] = {253, 1, 1, 4, 1, 128, 3, 1, 1, 22, 100, 64, 70, 254};
     static const uint8_t before[] = {253, 1, 1, 4, 1, 128, 3, 1, 1, 22, 100, 2, 8, 254};
     fresh();
-    CHECK(linebox_pcs_write(1, 1, LINEBOX_PCS_PLAIN, 1, 1, 1, fare, 2, out, sizeof out) == 14 && holds(out, frame, 14, sizeof out));
+    CHECK(linebox_pcs_write(1, 1, LINEBOX_PCS_PLAIN, 1, 1, 1, 0, fare, 2, out, sizeof out) == 14 && holds(out, frame, 14, sizeof out));
     CHECK(linebox_pcs_read(before, sizeof before, store, sizeof store) == LINEBOX_BADLY_PACKED);
+}
+
+/* the display frame of document 000, the same with a CRC, and their data */
+static const uint8_t display[] = {253, 101, 250, 5, 2, 128, 12, 1, 1, 67, 76, 67, 83, 72, 49, 50, 128, 51, 52, 53, 128, 96, 254};
+static const uint8_t display_crc[] = {253, 101, 250, 13, 2, 128, 12, 1, 1, 67, 76, 67, 83, 72, 49, 50, 128, 51, 52, 53, 128, 104, 124, 117, 1, 254};
+static const uint8_t display_data[] = {'C', 'L', 'C', 'S', 'H', '1', '2', '3', '4', '5'};
+
+/* the message of the display, with a CRC and without: the answers differ in bit 22 alone */
+static void pcs_crc_reads_back(void) {
+    uint8_t left[sizeof display_crc - 2];
+    fresh();
+    CHECK(linebox_pcs_write(101, 250, LINEBOX_PCS_ASKS, 2, 1, 1, 1, display_data, 10, out, sizeof out) == CAST(int32_t, sizeof display_crc));
+    CHECK(holds(out, display_crc, sizeof display_crc, sizeof out));
+    fresh();
+    CHECK(linebox_pcs_write(101, 250, LINEBOX_PCS_ASKS, 2, 1, 1, 0, display_data, 10, out, sizeof out) == CAST(int32_t, sizeof display));
+    CHECK(holds(out, display, sizeof display, sizeof out));
+
+    uint64_t without = linebox_pcs_read(display, sizeof display, store, LINEBOX_PCS_STORE);
+    CHECK(linebox_refusal(without) == 0 && linebox_pcs_crc(without) == 0);
+    fresh();
+    uint64_t r = linebox_pcs_read(display_crc, sizeof display_crc, store, LINEBOX_PCS_STORE);
+    CHECK(r == (without | 1 << 22) && linebox_refusal(r) == 0 && linebox_pcs_crc(r) == 1);
+    CHECK(linebox_length(r) == 10 && linebox_pcs_kind(r) == LINEBOX_PCS_ASKS && linebox_kind(r) == LINEBOX_PCS_ASKS);
+    CHECK(linebox_pcs_receiver(r) == 101 && linebox_pcs_sender(r) == 250 && linebox_pcs_number(r) == 2);
+    CHECK(linebox_pcs_sender_port(r) == 1 && linebox_pcs_receiver_port(r) == 1);
+    /* what was gathered, check values too, with the data over the first of it */
+    memcpy(left, display_crc + 1, sizeof left);
+    memcpy(left, display_data, sizeof display_data);
+    CHECK(holds(store, left, sizeof left, sizeof store));
+}
+
+/* both acknowledgements with a CRC; no data with them either */
+static void pcs_crc_acknowledges(void) {
+    for (uint8_t kind = LINEBOX_PCS_POSITIVE; kind <= LINEBOX_PCS_NEGATIVE; kind++) {
+        uint8_t frame[14] = {253, 250, 101, CAST(uint8_t, 12 + kind), 2, 128, 128, 1, 1};
+        CHECK(pcs_closed(frame, 8, 1) == 14);
+        fresh();
+        CHECK(linebox_pcs_write(250, 101, kind, 2, 1, 1, 1, data, 1, out, sizeof out) == -LINEBOX_UNSENDABLE);
+        CHECK(linebox_pcs_write(250, 101, kind, 2, 1, 1, 1, NULL, 0, out, 13) == -LINEBOX_OUTPUT_SHORT && kept(out, 0, sizeof out));
+        CHECK(linebox_pcs_write(250, 101, kind, 2, 1, 1, 1, NULL, 0, out, 14) == 14 && holds(out, frame, 14, sizeof out));
+        uint64_t r = linebox_pcs_read(frame, 14, store, LINEBOX_PCS_STORE);
+        CHECK(linebox_refusal(r) == 0 && linebox_length(r) == 0 && linebox_pcs_kind(r) == kind && linebox_pcs_crc(r) == 1);
+    }
+}
+
+/* a crc above 1 may not be sent, and that is looked for before the memory is */
+static void pcs_crc_not_written(void) {
+    fresh();
+    for (unsigned crc = 2; crc < 256; crc++) {
+        CHECK(linebox_pcs_write(1, 2, 0, 3, 4, 5, CAST(uint8_t, crc), data, 1, out, sizeof out) == -LINEBOX_UNSENDABLE);
+        CHECK(linebox_pcs_write(1, 2, 0, 3, 4, 5, CAST(uint8_t, crc), data, 1, out, 12) == -LINEBOX_UNSENDABLE);
+        CHECK(linebox_pcs_write(1, 2, 2, 3, 4, 5, CAST(uint8_t, crc), NULL, 0, NULL, 0) == -LINEBOX_UNSENDABLE);
+    }
+    /* a CRC makes no other field sendable, and takes three bytes more than no CRC */
+    CHECK(linebox_pcs_write(1, 2, 4, 3, 4, 5, 1, data, 1, out, sizeof out) == -LINEBOX_UNSENDABLE);
+    CHECK(linebox_pcs_write(0, 2, 0, 3, 4, 5, 1, data, 1, NULL, 0) == -LINEBOX_UNSENDABLE);
+    CHECK(linebox_pcs_write(1, 2, 0, 3, 4, 5, 1, data, 1025, NULL, 0) == -LINEBOX_UNSENDABLE);
+    CHECK(linebox_pcs_write(1, 2, 0, 3, 4, 5, 1, data, 1, out, 15) == -LINEBOX_OUTPUT_SHORT);
+    CHECK(kept(out, 0, sizeof out));
+    CHECK(linebox_pcs_write(1, 2, 0, 3, 4, 5, 1, data, 1, out, 16) == 16 && kept(out, 16, sizeof out));
+}
+
+/* every kind with and without a CRC, with data of 0 to 40 bytes: the frame ends as the rule says, and reads back */
+static void pcs_crc_round_trips(void) {
+    for (unsigned k = 0; k < 8 * 41; k++) {
+        uint8_t kind = k % 4, crc = k / 4 % 2, frame[64];
+        size_t n = k / 8, packed = n + (n + 6) / 7;
+        fresh();
+        int32_t length = linebox_pcs_write(1, 2, kind, 3, 4, 5, crc, data, n, out, sizeof out);
+        if (kind > LINEBOX_PCS_ASKS && n > 0) {
+            CHECK(length == -LINEBOX_UNSENDABLE && kept(out, 0, sizeof out));
+            continue;
+        }
+        memcpy(frame, out, 9 + packed);
+        CHECK(frame[3] == (crc ? 12 : 4) + kind && frame[5] == 128 && frame[6] == sent(CAST(unsigned, packed)));
+        size_t whole = pcs_closed(frame, 8 + packed, crc);
+        CHECK(length == CAST(int32_t, whole) && holds(out, frame, whole, sizeof out));
+        uint64_t r = linebox_pcs_read(frame, whole, store, LINEBOX_PCS_STORE);
+        CHECK(linebox_refusal(r) == 0 && linebox_length(r) == n && !memcmp(store + LINEBOX_PCS_DATA, data, n));
+        CHECK(linebox_pcs_kind(r) == kind && linebox_pcs_crc(r) == crc && linebox_pcs_receiver(r) == 1 && linebox_pcs_sender(r) == 2);
+        CHECK(linebox_pcs_number(r) == 3 && linebox_pcs_sender_port(r) == 4 && linebox_pcs_receiver_port(r) == 5);
+    }
+}
+
+/* any other byte in place of one of the four check bytes, but for the two marks */
+static void pcs_crc_damaged(void) {
+    uint8_t bad[sizeof display_crc];
+    for (size_t i = sizeof bad - 5; i < sizeof bad - 1; i++)
+        for (unsigned v = 0; v < 256; v++) {
+            memcpy(bad, display_crc, sizeof bad);
+            if (v == bad[i] || v == 253 || v == 254) continue;
+            bad[i] = CAST(uint8_t, v);
+            fresh();
+            CHECK(linebox_pcs_read(bad, sizeof bad, store, sizeof store) == LINEBOX_WRONG_CHECK);
+            CHECK(holds(store, bad + 1, sizeof bad - 2, sizeof store));
+        }
+    memcpy(bad, display_crc, sizeof bad); /* two bytes in each other's place: the sum stays, only a CRC tells */
+    bad[9] = display_crc[10];
+    bad[10] = display_crc[9];
+    CHECK(linebox_pcs_read(bad, sizeof bad, store, sizeof store) == LINEBOX_WRONG_CHECK);
+    memcpy(bad, display, sizeof display);
+    bad[9] = display[10];
+    bad[10] = display[9];
+    CHECK(linebox_refusal(linebox_pcs_read(bad, sizeof display, store, sizeof store)) == 0);
+}
+
+/* 0 where a check byte is 128 is wrong too: frames are tried until each of the four was 128 */
+static void pcs_crc_as_sent(void) {
+    unsigned seen = 0;
+    for (unsigned k = 0; k < 250 * 250 && seen != 15; k++) {
+        uint8_t number = CAST(uint8_t, k % 250 + 1), port = CAST(uint8_t, k / 250 + 1), bad[14];
+        CHECK(linebox_pcs_write(1, 2, 0, number, port, 1, 1, NULL, 0, out, sizeof out) == 14);
+        for (size_t i = 9; i < 13; i++) {
+            if (out[i] != 128) continue;
+            seen |= 1u << (i - 9);
+            memcpy(bad, out, 14);
+            bad[i] = 0;
+            CHECK(linebox_pcs_read(bad, 14, store, sizeof store) == LINEBOX_WRONG_CHECK);
+        }
+    }
+    CHECK(seen == 15);
+}
+
+/* what is refused behind the check values, which are right here */
+static void pcs_crc_refused(void) {
+    uint8_t frame[32] = {253, 1, 2, 12, 3, 128, 128, 4, 5};
+#define CLOSED(n, crc) linebox_pcs_read(frame, pcs_closed(frame, n, crc), store, sizeof store)
+    for (unsigned info = 0; info < 253; info++) { /* 4 to 7 and 12 to 15 are the only ones */
+        frame[3] = CAST(uint8_t, info);
+        int crc = info / 4 == 3, plain = info / 4 == 1;
+        CHECK(linebox_refusal(CLOSED(8, crc)) == (crc || plain ? 0 : LINEBOX_WRONG_FIELD));
+    }
+    frame[6] = 3; /* the length counts the packed data, not the CRC */
+    frame[3] = 13;
+    CHECK(CLOSED(8, 1) == LINEBOX_WRONG_LENGTH);
+    frame[3] = 14; /* an acknowledgement that states data, with them and without */
+    CHECK(CLOSED(8, 1) == LINEBOX_WRONG_FIELD);
+    frame[9] = frame[10] = 1;
+    frame[11] = 128;
+    CHECK(CLOSED(11, 1) == LINEBOX_WRONG_FIELD);
+    frame[3] = 12;
+    CHECK(linebox_length(CLOSED(11, 1)) == 2);
+    frame[11] = 1; /* an unused place is set */
+    CHECK(CLOSED(11, 1) == LINEBOX_BADLY_PACKED);
+    frame[1] = 0;
+    CHECK(CLOSED(11, 1) == LINEBOX_WRONG_FIELD);
+    frame[13] ^= 1; /* the CRC comes before the fields */
+    CHECK(linebox_pcs_read(frame, 17, store, sizeof store) == LINEBOX_WRONG_CHECK);
+}
+
+/* frames of 0 to 12 bytes between the marks: 9 are enough for one with the sum alone, 12 for one with a CRC; here no check value is right */
+static void pcs_crc_too_short(void) {
+    for (uint8_t info = 4; info < 16; info++)
+        for (size_t n = 0; n <= 12; n++) {
+            uint8_t frame[14] = {253, 1, 1, info, 1, 1, 1, 1, 1, 1, 1, 1, 1};
+            frame[n + 1] = 254;
+            CHECK(linebox_pcs_read(frame, n + 2, store, sizeof store) == (n < (info < 12 ? 9 : 12) ? LINEBOX_TOO_SHORT : LINEBOX_WRONG_CHECK));
+        }
+    uint8_t frame[14] = {253, 1, 1, 12, 1, 128, 128, 1, 1}; /* a right sum does not help */
+    CHECK(linebox_pcs_read(frame, pcs_closed(frame, 8, 0), store, sizeof store) == LINEBOX_TOO_SHORT);
+    CHECK(linebox_refusal(linebox_pcs_read(frame, pcs_closed(frame, 8, 1), store, sizeof store)) == 0);
+}
+
+/* frames of 1,180 to 1,184 bytes between the marks. Without a CRC those of 1,181 to 1,183 are refused at their end, though all else is right:
+ * the sum, the fields, the stated length and the packing of 1,025 to 1,027 bytes of data */
+static void pcs_crc_too_long(void) {
+    static uint8_t frame[1200];
+    memset(frame, 1, sizeof frame);
+    frame[0] = 253;
+    frame[5] = 9; /* 1,171 packed bytes and more */
+    for (size_t n = 1180; n <= 1183; n++) {
+        frame[3] = 4;
+        frame[6] = CAST(uint8_t, n - 9 - 9 * 128);
+        memset(frame + 9, 1, n - 9);
+        frame[n - 1] = 128; /* no top bit in the last group */
+        fresh();
+        CHECK(pcs_closed(frame, n - 1, 0) == n + 2);
+        uint64_t r = linebox_pcs_read(frame, n + 2, store, sizeof store);
+        CHECK(n == 1180 ? linebox_refusal(r) == 0 && linebox_length(r) == 1024 : r == LINEBOX_TOO_LONG && holds(store, frame + 1, n, sizeof store));
+        frame[n] ^= 1; /* the sum comes after the size */
+        CHECK(linebox_pcs_read(frame, n + 2, store, sizeof store) == (n == 1180 ? LINEBOX_WRONG_CHECK : LINEBOX_TOO_LONG));
+        for (unsigned info = 0; info < 253; info++) { /* whatever the info byte: 5, but for a frame with a CRC, which is judged on */
+            frame[3] = CAST(uint8_t, info);
+            pcs_closed(frame, n - 1, 0);
+            if (n == 1180 && info / 4 != 3) continue;
+            CHECK(linebox_pcs_read(frame, n + 2, store, sizeof store) == (info / 4 == 3 ? LINEBOX_WRONG_CHECK : LINEBOX_TOO_LONG));
+        }
+    }
+    for (int crc = 0; crc < 2; crc++) { /* byte 1,184 is one too many, and not stored; without it the frame is open */
+        frame[3] = crc ? 12 : 4;
+        memset(frame + 9, 1, sizeof frame - 9);
+        fresh();
+        CHECK(linebox_pcs_read(frame, 1185, store, sizeof store) == LINEBOX_TOO_LONG && holds(store, frame + 1, 1183, sizeof store));
+        CHECK(linebox_pcs_read(frame, 1184, store, sizeof store) == LINEBOX_TOO_SHORT);
+        frame[1185] = 254;
+        CHECK(linebox_pcs_read(frame, 1186, store, sizeof store) == LINEBOX_TOO_LONG);
+        frame[1184] = 253;
+        CHECK(linebox_pcs_read(frame, 1186, store, sizeof store) == LINEBOX_NEW_START);
+    }
 }
 
 static const uint8_t mdu_frame[] = {0xE3, 0x01, 0x00, 0x01, 0x0D, 0xF2, 0x31, 0xD4, 0xC1}, body[] = {0x31};
@@ -297,10 +508,18 @@ static void longest_frames(void) {
     uint8_t most[LINEBOX_MDU_MAX_DATA + 1];
     fresh();
     memset(most, 0x10, sizeof most);
-#define PCS(n, room) linebox_pcs_write(1, 1, LINEBOX_PCS_PLAIN, 1, 1, 1, most, n, out, room)
-    CHECK(PCS(LINEBOX_PCS_MAX_DATA + 1, sizeof out) == -LINEBOX_UNSENDABLE);
-    CHECK(PCS(LINEBOX_PCS_MAX_DATA, LINEBOX_PCS_LONGEST - 1) == -LINEBOX_OUTPUT_SHORT && kept(out, 0, sizeof out));
-    CHECK(PCS(LINEBOX_PCS_MAX_DATA, LINEBOX_PCS_LONGEST) == LINEBOX_PCS_LONGEST);
+#define PCS(crc, n, room) linebox_pcs_write(1, 1, LINEBOX_PCS_PLAIN, 1, 1, 1, crc, most, n, out, room)
+    CHECK(PCS(1, LINEBOX_PCS_MAX_DATA + 1, sizeof out) == -LINEBOX_UNSENDABLE);
+    CHECK(PCS(1, LINEBOX_PCS_MAX_DATA, LINEBOX_PCS_LONGEST - 1) == -LINEBOX_OUTPUT_SHORT && kept(out, 0, sizeof out));
+    CHECK(PCS(0, LINEBOX_PCS_MAX_DATA, LINEBOX_PCS_LONGEST - 4) == -LINEBOX_OUTPUT_SHORT && kept(out, 0, sizeof out));
+    CHECK(PCS(0, LINEBOX_PCS_MAX_DATA, LINEBOX_PCS_LONGEST - 3) == LINEBOX_PCS_LONGEST - 3);
+    CHECK(PCS(1, LINEBOX_PCS_MAX_DATA, LINEBOX_PCS_LONGEST) == LINEBOX_PCS_LONGEST && kept(out, LINEBOX_PCS_LONGEST, sizeof out));
+    /* it fills the store to its last byte */
+    CHECK(linebox_pcs_read(out, LINEBOX_PCS_LONGEST, store, LINEBOX_PCS_STORE - 1) == LINEBOX_STORE_SHORT && kept(store, 0, sizeof store));
+    uint64_t r = linebox_pcs_read(out, LINEBOX_PCS_LONGEST, store, LINEBOX_PCS_STORE);
+    CHECK(linebox_refusal(r) == 0 && linebox_pcs_crc(r) == 1 && linebox_length(r) == LINEBOX_PCS_MAX_DATA);
+    CHECK(!memcmp(store + LINEBOX_PCS_DATA, most, LINEBOX_PCS_MAX_DATA) && store[LINEBOX_PCS_STORE - 1] == out[LINEBOX_PCS_LONGEST - 2]);
+    CHECK(kept(store, LINEBOX_PCS_STORE, sizeof store) && LINEBOX_PCS_LONGEST == 1185 && LINEBOX_PCS_STORE == 1183);
     fresh();
 #define MDU(n, room) linebox_mdu_write(1, most, n, out, room)
     CHECK(MDU(LINEBOX_MDU_MAX_DATA + 1, sizeof out) == -LINEBOX_UNSENDABLE);
@@ -405,6 +624,15 @@ int main(void) {
     pcs_not_written();
     pcs_refused();
     pcs_last_groups();
+    pcs_crc_reads_back();
+    pcs_crc_acknowledges();
+    pcs_crc_not_written();
+    pcs_crc_round_trips();
+    pcs_crc_damaged();
+    pcs_crc_as_sent();
+    pcs_crc_refused();
+    pcs_crc_too_short();
+    pcs_crc_too_long();
     mdu_reads_back();
     mdu_not_written();
     mdu_refused();

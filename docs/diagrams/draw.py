@@ -18,10 +18,13 @@ def svg(width, height, parts):
 
 # name of the field, its bytes as shown below it, its width, its colour
 FRAMES = [
-    ("PCS", "sum over the fields from receiver to data, as sent", [
+    ("PCS", "info 4 to 7; sum over the fields from receiver to data, as sent", [
         ("253", "1", 44, MARK), ("receiver", "1", 70, HEAD), ("sender", "1", 62, HEAD), ("info", "1", 50, HEAD), ("number", "1", 66, HEAD),
         ("length", "2, seven bits each", 110, HEAD), ("sender port", "1", 92, HEAD), ("receiver port", "1", 100, HEAD),
         ("packed data", "0 to 1,171", 130, BODY), ("sum", "1", 46, CHECK), ("254", "1", 44, MARK)]),
+    ("PCS, CRC", "info 12 to 15; sum and CRC-16 over the same bytes as above; a part of the CRC that is 0 is sent as 128", [
+        ("253", "1", 44, MARK), ("receiver to receiver port", "8, as above", 190, HEAD), ("packed data", "0 to 1,171", 110, BODY), ("sum", "1", 46, CHECK),
+        ("CRC, lowest seven bits", "1", 154, CHECK), ("CRC, next seven", "1", 116, CHECK), ("CRC, top two", "1", 100, CHECK), ("254", "1", 44, MARK)]),
     ("MDU", "header sum over the five bytes before it, CRC over the body", [
         ("E3", "1", 40, MARK), ("01", "1", 40, HEAD), ("length", "2, high byte first", 120, HEAD), ("address", "1", 74, HEAD),
         ("header sum", "1", 92, CHECK), ("body: type and data", "1 to 1,025", 220, BODY), ("CRC-16", "2, high byte first", 120, CHECK)]),
@@ -71,9 +74,15 @@ def two(y, title, opens, stays_hunting, stays_open, ends):
     return p
 
 
+AT_254 = ["At 254, in this order (info 12 to 15: with CRC):", "6: fewer than 9 bytes; with CRC, fewer than 12", "5: more than 1,180 bytes without CRC",
+          "8: the sum or the CRC", "9: a field; 10: the length; 13: the packing"]
+
+
 def receivers():
     p = [TIP, text(20, 24, "Bytes of PCS are in decimal, those of the other links in hex. Refusal numbers are in decimal.", 12, "start")]
-    p += two(60, "PCS", "253", "any other byte: noise", "253: refusal 4, a new frame\nany other byte: gathered", "254: message, or refusal 6, 11, 8, 9, 10, 13\na byte too many: refusal 5")
+    p += two(60, "PCS", "253", "any other byte: noise", "253: refusal 4, a new frame\nany other byte: gathered, up to 1,183",
+             "254: message, or refusal 6, 5, 8, 9, 10, 13\nbyte 1,184: refusal 5")
+    p += [text(670, 108 + 15 * k, line, 10, "start", fill="#555") for k, line in enumerate(AT_254)]
     p += two(250, "MDU", "E3, gathered", "any other byte: noise", "any byte: gathered", "byte six: refusal 9, 8, 10\nlast byte: message, or refusal 8")
     y = 440
     p += [text(20, y, "DLE", 16, "start", "bold")]

@@ -2,7 +2,7 @@
 # Runs a listing program on every capture of a folder made by `second captures`
 # and compares what it prints with the expected listing. Then counts what the
 # captures held: each link must have messages, open frames and every number that
-# its stream can be refused with, and some first byte must name no link.
+# its stream can be refused with, and no other number, and some first byte must name no link.
 # usage: captures.sh PROGRAM DIR
 set -u
 program=$1
@@ -28,16 +28,18 @@ tally='
         printf "%s", link
         for (i = 1; i <= n; i++) {
             printf "  %s: %d", word[i], seen[link, word[i]]
+            can[link, word[i]] = 1
             if (!seen[link, word[i]]) missing = missing "never seen on " link ": " word[i] "\n"
         }
         print ""
     }
     END {
-        demand("P", "message open 4 5 6 8 9 10 11 13")
+        demand("P", "message open 4 5 6 8 9 10 13")
         demand("M", "message open 8 9 10")
         demand("D", "message open 4 5 6 7 10")
         demand("X", "message open 4 5 6 7 8 9")
         demand("-", "9")
+        for (key in seen) if (!(key in can)) { split(key, part, SUBSEP); missing = missing "can not be on " part[1] ": " part[2] "\n" }
         printf "%s", missing
         exit missing != ""
     }'

@@ -23,7 +23,7 @@ Detects n f = (u v : List ℕ) → Bytes u → Bytes v → length u ≡ length v
 abbrev pub CheckValueLaw : Type 0
 CheckValueLaw = (n p start : ℕ) → 2 ^ (8 * n - 1) ≤ p → p < 2 ^ (8 * n) → start < 2 ^ (8 * n) → Detects n (run p start)
 
--- the CRC of MDU detects two bytes
+-- the CRC of MDU and PCS detects two bytes
 abbrev pub Crc16Detects : Type 0
 Crc16Detects = Detects 2 crc16Of
 

@@ -25,7 +25,7 @@ run p c (b ∷ bs) = run p (byteStep p c b) bs
 abbrev pub crc16From : ℕ → List ℕ → ℕ
 crc16From start bs = run 0xA001 start bs
 
--- the CRC of MDU: start 0
+-- the CRC of a frame, on MDU and on PCS: start 0
 abbrev pub crc16Of : List ℕ → ℕ
 crc16Of bs = crc16From 0 bs
 

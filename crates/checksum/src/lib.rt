@@ -1,4 +1,4 @@
-// The check values of the links: the CRCs of MDU and of the expansion link, by tables, and the sum of PCS.
+// The check values of the links: the CRC of MDU and PCS and that of the expansion link, by tables, and the sum of PCS.
 mod braid_table;
 mod table;
 
@@ -19,7 +19,7 @@ ghost use Rattle.checksum.specs.Sum.{totalOf, lowered, sumOf};
 // From so many bytes on, a table for long runs is worth its laying out.
 const LONG: usize = 96;
 
-// The table of the CRC of MDU, to be laid out once a call and lent: a constant is copied at each use.
+// The table of the 16-bit CRC, to be laid out once a call and lent: a constant is copied at each use.
 fn table16() -> [u32; 128]
     ensures { λ r. ⌜ NibbleTable 0xA001 r ⌝ }
 {
@@ -33,7 +33,7 @@ fn table32() -> [u32; 128]
     NIBBLES32
 }
 
-// The table of the CRC of MDU for long runs.
+// The table of the 16-bit CRC for long runs.
 fn braid16() -> [u32; 1024]
     ensures { λ r. ⌜ BraidTable 0xA001 r ⌝ }
 {
@@ -228,7 +228,7 @@ fn after_long(table: &[u32; 128], long: &[u32; 1024], start: u32, bytes: &[u8]) 
     after(table, c, &rest[24..])
 }
 
-// The register of the CRC of MDU after the bytes. A part is handed on, since the slice itself would be copied for short runs too.
+// The register of the 16-bit CRC after the bytes. A part is handed on, since the slice itself would be copied for short runs too.
 fn after16(table: &[u32; 128], start: u32, bytes: &[u8]) -> u32
     ensures { λ r. ⌜ (NibbleTable 0xA001 (now (table .entry)) → r ≡ run 0xA001 start (now (bytes .entry))) ⌝ }
 {
@@ -252,7 +252,7 @@ fn after32(table: &[u32; 128], start: u32, bytes: &[u8]) -> u32
     }
 }
 
-// The 16-bit CRC of these bytes, from a start: 0 on MDU, or the value that the bytes before them have reached.
+// The 16-bit CRC of these bytes, from a start: 0 on MDU and PCS, or the value that the bytes before them have reached.
 pub fn crc16(start: u16, bytes: &[u8]) -> u16
     ensures { λ r. ⌜ r ≡ crc16From start (now (bytes .entry)) ⌝ }
 {

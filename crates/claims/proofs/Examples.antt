@@ -14,4 +14,4 @@ use Rattle.claims.specs.Examples.{Examples}
 pub examples : Examples
 unfolding sum each littleEndian isSent lastPlace topsAfter topsOf packedGroup packedGroups packed joined unpackedGroup unpackedGroups
     dataInGroups allSent unusedClear wellEnded wellPacked unpacked shifts byteStep run formOf allowed wellFormed reading
-examples = (refl, (refl, (refl, (refl, (refl, (refl, (refl, (refl, (refl, (refl, (refl, (refl, (refl, tt)))))))))))))
+examples = (refl, (refl, (refl, (refl, (refl, (refl, (refl, (refl, (refl, (refl, (refl, (refl, (refl, (refl, (refl, tt)))))))))))))))

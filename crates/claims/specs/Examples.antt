@@ -1,7 +1,8 @@
--- The twelve examples that 01 marks to be proved, and behind them those that the requests of 02 that are built print,
--- as one statement over one list of rows.
+-- The twelve examples that 01 marks to be proved, and behind them those of the requests of 02 that are built, as one statement over one list of rows:
+-- a fare of two bytes packed, which 02 prints; two frames with a CRC, the display's and an acknowledgement whose CRC is 0, in three bytes of 128.
 use Prim.Native.Nat.{ℕ}
 use mathlib.Core.Path.{_≡_}
+use mathlib.Core.Bool.{true}
 use mathlib.Core.List.{List, [], _∷_}
 use mathlib.Core.Option.{Option, some}
 use lib.IntN.{ℤ, negsuc}
@@ -12,11 +13,12 @@ use Rattle.checksum.specs.Sum.{sumOf}
 use Rattle.checksum.specs.Crc.{crc16Of}
 use Rattle.escape.specs.Code.{hide}
 use Rattle.escape.specs.Expansion.{expansion}
+use Rattle.pcs.specs.Frame as Pcs
 use Rattle.dle.specs.Frame.{content, frame}
 use Rattle.record.specs.Fares.{unsignedFares, signedFares}
 use Rattle.record.specs.Answers.{reading}
 
--- what is worked out, and what the papers print for it
+-- what is worked out, and what it is by the papers
 pub record Row : Type 1 where
   pub Value : Type 0
   pub worked : Value
@@ -33,6 +35,11 @@ query = 2 ∷ 250 ∷ 4 ∷ 4 ∷ 128 ∷ 11 ∷ 1 ∷ 1 ∷ 67 ∷ 69 ∷ 76 �
 abbrev pub display : List ℕ
 display =
     101 ∷ 250 ∷ 5 ∷ 2 ∷ 128 ∷ 12 ∷ 1 ∷ 1 ∷ 67 ∷ 76 ∷ 67 ∷ 83 ∷ 72 ∷ 49 ∷ 50 ∷ 128 ∷ 51 ∷ 52 ∷ 53 ∷ 128 ∷ []
+
+-- the display frame as a board with CRC has it: info 13, and behind the sum the three bytes of the CRC
+abbrev pub displayWithCrc : List ℕ
+displayWithCrc =
+    253 ∷ 101 ∷ 250 ∷ 13 ∷ 2 ∷ 128 ∷ 12 ∷ 1 ∷ 1 ∷ 67 ∷ 76 ∷ 67 ∷ 83 ∷ 72 ∷ 49 ∷ 50 ∷ 128 ∷ 51 ∷ 52 ∷ 53 ∷ 128 ∷ 104 ∷ 124 ∷ 117 ∷ 1 ∷ 254 ∷ []
 
 abbrev pub acknowledgement : List ℕ
 acknowledgement = 250 ∷ 101 ∷ 6 ∷ 2 ∷ 128 ∷ 128 ∷ 1 ∷ 1 ∷ []
@@ -72,6 +79,16 @@ rows =
       printed = done (negsuc 27035);
     }
     ∷ record { Value = List ℕ; worked = packed (0x96 ∷ 0x64 ∷ []); printed = 22 ∷ 100 ∷ 64 ∷ [] }
+    ∷ record {
+      Value = List ℕ;
+      worked = Pcs.frame (Pcs.withFields 101 250 1 2 1 1 true (67 ∷ 76 ∷ 67 ∷ 83 ∷ 72 ∷ 49 ∷ 50 ∷ 51 ∷ 52 ∷ 53 ∷ []));
+      printed = displayWithCrc;
+    }
+    ∷ record {
+      Value = List ℕ;
+      worked = Pcs.frame (Pcs.withFields 44 7 2 185 1 1 true []);
+      printed = 253 ∷ 44 ∷ 7 ∷ 14 ∷ 185 ∷ 128 ∷ 128 ∷ 1 ∷ 1 ∷ 124 ∷ 128 ∷ 128 ∷ 128 ∷ 254 ∷ [];
+    }
     ∷ []
 
 abbrev pub Examples : Type 0

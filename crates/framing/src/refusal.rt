@@ -8,7 +8,7 @@ pub const OUTPUT_SHORT: u8 = 2;
 pub const UNSENDABLE: u8 = 3;
 // A start mark inside an open frame.
 pub const NEW_START: u8 = 4;
-// A byte to gather when the link's size is reached.
+// A byte to gather when the link's size is reached, or the end of a PCS frame without CRC of more than 1,180 bytes.
 pub const TOO_LONG: u8 = 5;
 // The end of a frame below the least size, or a run lent as a whole frame that is none.
 pub const TOO_SHORT: u8 = 6;
@@ -20,8 +20,7 @@ pub const WRONG_CHECK: u8 = 8;
 pub const WRONG_FIELD: u8 = 9;
 // The stated length is wrong.
 pub const WRONG_LENGTH: u8 = 10;
-// A PCS frame asks for a CRC.
-pub const CRC_ASKED: u8 = 11;
+// 11, a PCS frame that asked for a CRC, is withdrawn by 02: no call gives it.
 // A state whose mode is none of its kind, whose count passes the link's size or is not 0 while it hunts, whose repeat passes 3, or as MDU adds.
 pub const UNKNOWN_STATE: u8 = 12;
 // PCS data is badly packed.

@@ -12,6 +12,7 @@ use Rattle.escape.specs.Dle.{dle}
 use Rattle.escape.proofs.Dle.{dle-lawful}
 use Rattle.pcs.specs.Contract as Pcs
 use Rattle.pcs.proofs.Allowed.{sendable}
+use Rattle.pcs.proofs.Trailer.{trailing-range}
 use Rattle.pcs.proofs.Written as pcs-written
 use Rattle.mdu.specs.Contract as Mdu
 use Rattle.mdu.specs.Frame.{lengthOk}
@@ -26,7 +27,7 @@ use Rattle.host.specs.Claims.{FrameBound}
 pub pcs-bound : FrameBound Pcs.link
 pcs-bound m h =
     let s = sendable m h in
-    omega (arith, pcs-written.frame-length m)
+    omega (arith, pcs-written.frame-length m, trailing-range (m .crc) .1)
 
 pub mdu-bound : FrameBound Mdu.link
 mdu-bound m h =

@@ -1,7 +1,7 @@
 -- What the number of a message packs on each link.
 use Prim.Native.Nat.{ℕ, zero, suc}
 use mathlib.Core.Path.{_≡_, refl}
-use mathlib.Core.Bool.{true, cond}
+use mathlib.Core.Bool.{true, false, cond}
 use mathlib.Core.List.{List, [], _∷_}
 use native.Mathlib.Omega.{arith}
 use lib.Dec.{eqb, leb, lit<}
@@ -41,7 +41,7 @@ pcs-bytes m t (suc (suc zero)) = t .number
 pcs-bytes m t (suc (suc (suc i))) = bytes-two (m .sender-port) (m .receiver-port) (t .sender-port) (t .receiver-port) i
 
 pub pcs-packs : (m : PcsFrame.Message) → PcsFrame.ok m ≡ true → PcsFrame.Typed m
-    → Packs pcsCode (λ v. v .length) (λ v. v .kind) pcsFields (Pcs.numbersOf m)
+    → Packs pcsCode (λ v. v .length) (λ v. v .kind) (λ v. v .crc) pcsFields (Pcs.numbersOf m)
 pcs-packs m h t =
     let s = sendable m h in
     record {
@@ -52,18 +52,18 @@ pcs-packs m h t =
     }
 
 pub pcs-zero : (v : PcsNumbers.Message) → refusalOf (pcsCode v) ≡ 0
-pcs-zero v = packed-refusal (v .length) (v .kind) _
+pcs-zero v = packed-refusal (v .length) (v .kind) (v .crc) _
 
 -- ---- MDU
 
 pub mdu-packs : (m : MduFrame.Message) → MduFrame.ok m ≡ true → MduFrame.Typed m
-    → Packs mduCode (λ v. v .length) (λ v. 0) (λ v. v .address ∷ []) (Mdu.numbersOf m)
+    → Packs mduCode (λ v. v .length) (λ v. 0) (λ v. false) (λ v. v .address ∷ []) (Mdu.numbersOf m)
 mdu-packs m h t =
     let k = length-most (length (m .body)) (and-both (leb 1 (m .address)) (MduFrame.lengthOk (length (m .body))) h .1) in
     record { number = refl; size-fits = omega arith; kind-fits = lit< tt; fields-fit = bytes-one (m .address) (t .0) }
 
 pub mdu-zero : (v : MduNumbers.Message) → refusalOf (mduCode v) ≡ 0
-mdu-zero v = packed-refusal (v .length) 0 _
+mdu-zero v = packed-refusal (v .length) 0 false _
 
 -- ---- DLE
 
@@ -75,7 +75,7 @@ abbrev dleKind : DleNumbers.Message → ℕ
 dleKind v = cond (eqb (v .length) 0) 1 0
 
 pub dle-packs : (m : DleFrame.Message) → DleFrame.ok m ≡ true → DleFrame.Typed m
-    → Packs dleCode (λ v. v .length) dleKind dleFields (Dle.numbersOf m)
+    → Packs dleCode (λ v. v .length) dleKind (λ v. false) dleFields (Dle.numbersOf m)
 dle-packs (DleFrame.content s n d) h t =
     let l = ok-length (length d) h in
     let z = ne-eqb (length d) 0 (λ e. omega (arith, l .0)) in
@@ -95,7 +95,7 @@ dle-packs (DleFrame.error s n e) h t =
 
 pub dle-zero : (v : DleNumbers.Message) → refusalOf (dleCode v) ≡ 0
 dle-zero v =
-    by-eqb (λ r. refusalOf r ≡ 0) (v .length) 0 (λ _. packed-refusal 0 1 _) (λ _. packed-refusal (v .length) 0 _)
+    by-eqb (λ r. refusalOf r ≡ 0) (v .length) 0 (λ _. packed-refusal 0 1 false _) (λ _. packed-refusal (v .length) 0 false _)
 
 -- ---- expansion
 
@@ -108,7 +108,7 @@ expansion-bytes m t (suc zero) = t .kind
 expansion-bytes m t (suc (suc i)) = bytes-two (m .repeat) (m .address) (t .repeat) (t .address) i
 
 pub expansion-packs : (m : ExpansionFrame.Message) → ExpansionFrame.ok m ≡ true → ExpansionFrame.Typed m
-    → Packs expansionCode (λ v. v .length) (λ v. 0) expansionFields (Expansion.numbersOf m)
+    → Packs expansionCode (λ v. v .length) (λ v. 0) (λ v. false) expansionFields (Expansion.numbersOf m)
 expansion-packs m h t =
     let a = and-both (ExpansionFrame.kindOk (m .kind) (length (m .payload))) _ h in
     let b = leb-true (length (m .payload)) 1024 (and-both (leb (m .repeat) 3) (leb (length (m .payload)) 1024) (a .1) .1) in
@@ -120,4 +120,4 @@ expansion-packs m h t =
     }
 
 pub expansion-zero : (v : ExpansionNumbers.Message) → refusalOf (expansionCode v) ≡ 0
-expansion-zero v = packed-refusal (v .length) 0 _
+expansion-zero v = packed-refusal (v .length) 0 false _

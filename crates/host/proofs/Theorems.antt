@@ -1,7 +1,7 @@
 -- What is claimed of the host's calls on each link.
 use Prim.Native.Nat.{ℕ}
 use mathlib.Core.Path.{_≡_, refl}
-use mathlib.Core.Bool.{true, cond, _&&_}
+use mathlib.Core.Bool.{true, cond, not, _&&_}
 use mathlib.Core.List.{List, _∷_}
 use lib.Dec.{eqb, leb}
 use Rattle.framing.specs.Link.{Link}
@@ -25,19 +25,19 @@ use Rattle.expansion.specs.Contract as Expansion
 use Rattle.expansion.specs.Claims as ExpansionClaims
 use Rattle.expansion.proofs.Lawful as expansion
 use Rattle.expansion.proofs.Numbers as expansion-numbers
-use Rattle.host.specs.Read.{refusalOf, pcsCode, mduCode, dleCode, expansionCode, lengthOf, kindOf, fieldOf}
+use Rattle.host.specs.Read.{refusalOf, pcsCode, mduCode, dleCode, expansionCode, lengthOf, kindOf, crcOf, fieldOf}
 use Rattle.host.specs.Claims.{pcsRefusals, mduRefusals, dleRefusals, expansionRefusals, FrameBound, PartTold, CallsOf}
 use Rattle.host.proofs.Bounds as bounds
-use Rattle.host.proofs.Refusals.{refusals-fit, refusal-told}
-use Rattle.host.proofs.Parts.{length-told, kind-told, field-told}
+use Rattle.host.proofs.Refusals.{refusals-fit, refusal-told, read-never, write-never}
+use Rattle.host.proofs.Parts.{length-told, kind-told, crc-told, field-told}
 use Rattle.host.proofs.Fields.{pcs-packs, pcs-zero, mdu-packs, mdu-zero, dle-packs, dle-zero, expansion-packs, expansion-zero}
 
--- over any link: its numbers, 6 and 1 are those of the list, and at most 13
+-- over any link: its numbers, 6 and 1 are those of the list, at most 13, and none of them is 11
 module _ (L : Link) (laws : Lawful L) (bound : FrameBound L) (numbers : List ℕ) (given : Given L numbers) (code : L .Numbers → ℕ)
     (zero-bits : (v : L .Numbers) → refusalOf (code v) ≡ 0) where
   calls-of : (list : List ℕ) → every (λ n. isIn n list) (6 ∷ 1 ∷ numbers) ≡ true → every (λ n. isIn n (6 ∷ 1 ∷ numbers)) list ≡ true
-      → every (λ n. leb 1 n && leb n 13) (6 ∷ 1 ∷ numbers) ≡ true → CallsOf L code list
-  calls-of list there here few =
+      → every (λ n. leb 1 n && leb n 13) (6 ∷ 1 ∷ numbers) ≡ true → every (λ n. not (eqb n 11)) (6 ∷ 1 ∷ numbers) ≡ true → CallsOf L code list
+  calls-of list there here few others =
       record {
         frame-bound = bound;
         only-frames = only-frames L laws;
@@ -46,18 +46,24 @@ module _ (L : Link) (laws : Lawful L) (bound : FrameBound L) (numbers : List ℕ
         writes-give = writes-give L;
         refusals-fit = refusals-fit L laws numbers given few;
         refusal-told = refusal-told L laws numbers given few code zero-bits;
+        read-never = read-never L laws numbers given few others code zero-bits;
+        write-never = write-never L;
       }
 
 -- ---- PCS
 
 pub pcs-calls : CallsOf Pcs.link pcsCode pcsRefusals
-pcs-calls = calls-of Pcs.link pcs.lawful bounds.pcs-bound PcsClaims.streamNumbers pcs-numbers.given pcsCode pcs-zero pcsRefusals refl refl refl
+pcs-calls = calls-of Pcs.link pcs.lawful bounds.pcs-bound PcsClaims.streamNumbers pcs-numbers.given pcsCode pcs-zero pcsRefusals refl refl refl refl
 
 pub pcs-length-told : PartTold Pcs.link pcsCode lengthOf (λ v. v .length)
 pcs-length-told = length-told Pcs.link (pcs-calls .only-frames) pcs-packs
 
 pub pcs-kind-told : PartTold Pcs.link pcsCode kindOf (λ v. v .kind)
 pcs-kind-told = kind-told Pcs.link (pcs-calls .only-frames) pcs-packs
+
+-- 1 for a frame with a CRC
+pub pcs-crc-told : PartTold Pcs.link pcsCode crcOf (λ v. cond (v .crc) 1 0)
+pcs-crc-told = crc-told Pcs.link (pcs-calls .only-frames) pcs-packs
 
 pub pcs-receiver-told : PartTold Pcs.link pcsCode (fieldOf 0) (λ v. v .receiver)
 pcs-receiver-told = field-told Pcs.link (pcs-calls .only-frames) pcs-packs 0
@@ -77,7 +83,7 @@ pcs-receiver-port-told = field-told Pcs.link (pcs-calls .only-frames) pcs-packs 
 -- ---- MDU
 
 pub mdu-calls : CallsOf Mdu.link mduCode mduRefusals
-mdu-calls = calls-of Mdu.link mdu.lawful bounds.mdu-bound MduClaims.streamNumbers mdu-numbers.given mduCode mdu-zero mduRefusals refl refl refl
+mdu-calls = calls-of Mdu.link mdu.lawful bounds.mdu-bound MduClaims.streamNumbers mdu-numbers.given mduCode mdu-zero mduRefusals refl refl refl refl
 
 pub mdu-length-told : PartTold Mdu.link mduCode lengthOf (λ v. v .length)
 mdu-length-told = length-told Mdu.link (mdu-calls .only-frames) mdu-packs
@@ -88,7 +94,7 @@ mdu-address-told = field-told Mdu.link (mdu-calls .only-frames) mdu-packs 0
 -- ---- DLE
 
 pub dle-calls : CallsOf Dle.link dleCode dleRefusals
-dle-calls = calls-of Dle.link dle.lawful bounds.dle-bound DleClaims.streamNumbers dle-numbers.given dleCode dle-zero dleRefusals refl refl refl
+dle-calls = calls-of Dle.link dle.lawful bounds.dle-bound DleClaims.streamNumbers dle-numbers.given dleCode dle-zero dleRefusals refl refl refl refl
 
 pub dle-length-told : PartTold Dle.link dleCode lengthOf (λ v. v .length)
 dle-length-told = length-told Dle.link (dle-calls .only-frames) dle-packs
@@ -109,7 +115,7 @@ dle-error-told = field-told Dle.link (dle-calls .only-frames) dle-packs 2
 -- ---- expansion
 
 pub expansion-calls : CallsOf Expansion.link expansionCode expansionRefusals
-expansion-calls = calls-of Expansion.link expansion.lawful bounds.expansion-bound ExpansionClaims.streamNumbers expansion-numbers.given expansionCode expansion-zero expansionRefusals refl refl refl
+expansion-calls = calls-of Expansion.link expansion.lawful bounds.expansion-bound ExpansionClaims.streamNumbers expansion-numbers.given expansionCode expansion-zero expansionRefusals refl refl refl refl
 
 pub expansion-length-told : PartTold Expansion.link expansionCode lengthOf (λ v. v .length)
 expansion-length-told = length-told Expansion.link (expansion-calls .only-frames) expansion-packs

@@ -1,7 +1,7 @@
 -- What is claimed of the calls, over any link, and the refusals of each read. proofs/Theorems.antt proves it for each link.
 use Prim.Native.Nat.{ℕ, _≤_}
 use mathlib.Core.Path.{_≡_}
-use mathlib.Core.Bool.{true}
+use mathlib.Core.Bool.{Bool, true}
 use mathlib.Core.List.{List, [], _∷_}
 use lib.ListN.{length}
 use Rattle.runs.specs.Runs.{Bytes}
@@ -9,12 +9,14 @@ use Rattle.framing.specs.Answer.{done, refused, faultOf}
 use Rattle.framing.specs.Link.{Link}
 use Rattle.framing.specs.Whole.{readOn, OnlyFrames, FramesRead}
 use Rattle.framing.specs.Refusals.{ReadsGive, WritesGive}
+use Rattle.pcs.specs.Contract as Pcs
 use Rattle.host.specs.Read.{reads, refusalOf}
+use Rattle.host.specs.Write.{int32Of, writesTo, chosen}
 
 -- the refusals of each read, and no others: a short store, what its receiver gives of a stream, and 6 for bytes that are not one whole frame. So
--- 4 and 5 are not given on MDU, 7 on DLE and expansion only, 8 and 9 not on DLE, 10 not on expansion, 11 and 13 on PCS only, 2, 3 and 12 by no read
+-- 4 and 5 are not given on MDU, 7 on DLE and expansion only, 8 and 9 not on DLE, 10 not on expansion, 13 on PCS only, 2, 3, 11 and 12 by no read
 abbrev pub pcsRefusals : List ℕ
-pcsRefusals = 1 ∷ 4 ∷ 5 ∷ 6 ∷ 8 ∷ 9 ∷ 10 ∷ 11 ∷ 13 ∷ []
+pcsRefusals = 1 ∷ 4 ∷ 5 ∷ 6 ∷ 8 ∷ 9 ∷ 10 ∷ 13 ∷ []
 
 abbrev pub mduRefusals : List ℕ
 mduRefusals = 1 ∷ 6 ∷ 8 ∷ 9 ∷ 10 ∷ []
@@ -38,6 +40,13 @@ module _ (L : Link) where
   abbrev pub RefusalTold : (L .Numbers → ℕ) → Type 0
   RefusalTold code = (run store : List ℕ) → refusalOf (reads L code run store .0) ≡ faultOf (readOn L run store .0)
 
+  -- no read and no write answers 11, which 02 withdraws
+  abbrev pub ReadNever : (L .Numbers → ℕ) → Type 0
+  ReadNever code = (run store : List ℕ) → refusalOf (reads L code run store .0) ≡ 11 → ⊥
+
+  abbrev pub WriteNever : Type 0
+  WriteNever = (m : L .Message) (out : List ℕ) → writesTo L m out .0 ≡ int32Of (refused 11) → ⊥
+
   -- of a message that is told, an accessor tells a part
   abbrev pub PartTold : (L .Numbers → ℕ) → (ℕ → ℕ) → (L .Numbers → ℕ) → Type 0
   PartTold code accessor part =
@@ -52,3 +61,10 @@ pub record CallsOf (L : Link) (code : L .Numbers → ℕ) (refusals : List ℕ) 
   pub writes-give : WritesGive L
   pub refusals-fit : RefusalsFit L
   pub refusal-told : RefusalTold L code
+  pub read-never : ReadNever L code
+  pub write-never : WriteNever L
+
+-- nor does a write of PCS, whatever number comes for the choice of a CRC
+abbrev pub ChosenNever : Type 0
+ChosenNever =
+    (crc : ℕ) (m : Bool → Pcs.link .Message) (out : List ℕ) → chosen crc (λ k. writesTo Pcs.link (m k) out) out .0 ≡ int32Of (refused 11) → ⊥

@@ -2,7 +2,9 @@
 use framing::Answer;
 use framing::refusal;
 ghost use mathlib.Core.Path.{_≡_};
+ghost use mathlib.Core.Bool.{cond};
 ghost use mathlib.Core.List.{[], _∷_};
+ghost use Prim.Native.Nat.{_*_, _^_};
 ghost use Rattle.checksum.specs.Crc.{crc16From};
 ghost use Rattle.framing.specs.Answer.{outcomeOf};
 ghost use Rattle.framing.specs.Whole.{settle, exactly};
@@ -14,7 +16,7 @@ ghost use Rattle.dle.specs.Frame.{content, error as errorMessage};
 ghost use Rattle.expansion.specs.Contract as Expansion;
 ghost use Rattle.expansion.specs.Frame as ExpansionFrame;
 ghost use Rattle.host.specs.Read.{packed, encode, reads, pcsCode, mduCode, dleCode, expansionCode};
-ghost use Rattle.host.specs.Write.{int32Of, writesTo};
+ghost use Rattle.host.specs.Write.{int32Of, writesTo, chosen};
 ghost use Rattle.host.specs.Steps.{Short};
 
 // Whether a call used a whole run of this length, none of it noise. The noise count goes round at 2^32, and no frame is as long as that.
@@ -28,13 +30,21 @@ fn is_exact(length: usize, used: usize, noise: u32) -> bool
     }
 }
 
+// The bit that tells of a CRC, at its place.
+fn crc_bit(crc: bool) -> u64
+    ensures { λ r. ⌜ r ≡ 2 ^ 22 * cond crc 1 0 ⌝ }
+{
+    if crc { 4194304 } else { 0 }
+}
+
 // A message as one number.
-fn pack(size: usize, kind: u8, a: u8, b: u8, c: u8, d: u8, e: u8) -> u64
-    ensures { λ r. ⌜ r ≡ packed size kind (a ∷ b ∷ c ∷ d ∷ e ∷ []) ⌝ }
+fn pack(size: usize, kind: u8, crc: bool, a: u8, b: u8, c: u8, d: u8, e: u8) -> u64
+    ensures { λ r. ⌜ r ≡ packed size kind crc (a ∷ b ∷ c ∷ d ∷ e ∷ []) ⌝ }
 {
     let high = ((e as u64) * 256 + (d as u64)) * 256 + (c as u64);
     let fields = (high * 256 + (b as u64)) * 256 + (a as u64);
-    256 * ((size % 4096) as u64) + 1048576 * ((kind % 4) as u64) + 16777216 * fields
+    let low = 256 * ((size % 4096) as u64) + 1048576 * ((kind % 4) as u64);
+    low + crc_bit(crc) + 16777216 * fields
 }
 
 // A writer's answer as one number: the length, or minus the refusal's number.
@@ -57,12 +67,18 @@ pub extern "C" fn linebox_pcs_write(
     number: u8,
     sender_port: u8,
     receiver_port: u8,
+    crc: u8,
     data: &[u8],
     out: &mut [u8],
 ) -> i32
-    ensures { λ r. ⌜ (r, now (out .exit)) ≡ writesTo Pcs.link
-        (PcsFrame.withFields receiver sender kind number «sender_port» «receiver_port» (now («data» .entry))) (now (out .entry)) ⌝ }
+    ensures { λ r. ⌜ (r, now (out .exit)) ≡ chosen crc
+        (λ k. writesTo Pcs.link
+        (PcsFrame.withFields receiver sender kind number «sender_port» «receiver_port» k (now («data» .entry))) (now (out .entry)))
+        (now (out .entry)) ⌝ }
 {
+    if crc > 1 {
+        return int32_of(Answer::Refused(refusal::UNSENDABLE));
+    }
     int32_of(pcs::write(
         receiver,
         sender,
@@ -70,6 +86,7 @@ pub extern "C" fn linebox_pcs_write(
         number,
         sender_port,
         receiver_port,
+        crc == 1,
         data,
         out,
     ))
@@ -127,6 +144,7 @@ fn encode_pcs(event: pcs::Event, exact: bool) -> u64
                 pack(
                     m.length,
                     m.kind,
+                    m.crc,
                     m.receiver,
                     m.sender,
                     m.number,
@@ -149,7 +167,7 @@ fn encode_mdu(event: mdu::Event, exact: bool) -> u64
         mdu::Event::Refused(fault) => fault as u64,
         mdu::Event::Accepted(m) => {
             if exact {
-                pack(m.length, 0, m.address, 0, 0, 0, 0)
+                pack(m.length, 0, false, m.address, 0, 0, 0, 0)
             } else {
                 refusal::TOO_SHORT as u64
             }
@@ -162,9 +180,9 @@ fn dle_code(m: dle::Message) -> u64
     ensures { λ r. ⌜ r ≡ dleCode m ⌝ }
 {
     if m.length == 0 {
-        pack(0, 1, m.sequence, m.node, m.error, 0, 0)
+        pack(0, 1, false, m.sequence, m.node, m.error, 0, 0)
     } else {
-        pack(m.length as usize, 0, m.sequence, m.node, 0, 0, 0)
+        pack(m.length as usize, 0, false, m.sequence, m.node, 0, 0, 0)
     }
 }
 
@@ -194,7 +212,7 @@ fn encode_expansion(event: expansion::Event, exact: bool) -> u64
         expansion::Event::Refused(fault) => fault as u64,
         expansion::Event::Accepted(m) => {
             if exact {
-                pack(m.length, 0, m.id, m.kind, m.repeat, m.address, 0)
+                pack(m.length, 0, false, m.id, m.kind, m.repeat, m.address, 0)
             } else {
                 refusal::TOO_SHORT as u64
             }

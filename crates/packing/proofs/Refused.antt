@@ -21,7 +21,7 @@ use Rattle.packing.proofs.Tops.{place-last}
 use Rattle.packing.proofs.Contract.{unpacked-done, unpacked-refused, well-unpacks, badly-unpacks}
 
 -- in the top bits v of a group of k bytes no unused place is set exactly if the low 7 - k places are 0
-low-clear : (k v : ℕ) → k ≤ 7 → v < 128 → unusedClear k v ≡ eqb (v % 2 ^ (7 - k)) 0
+pub low-clear : (k v : ℕ) → k ≤ 7 → v < 128 → unusedClear k v ≡ eqb (v % 2 ^ (7 - k)) 0
 unfolding unusedClear
 low-clear k v l h =
     let place : ℕ = lastPlace k in

@@ -122,9 +122,8 @@ fn unused_clear(v: u8, k: usize) -> bool
     requires { ⌜ (k ≤ 7) × (v < 128) ⌝ }
     ensures { λ r. ⌜ r ≡ unusedClear k v ⌝ }
 {
-    let place = last_place(k);
-    let size: u8 = 1 << k;
-    ((v >> place) % size) << place == v
+    let lowest: u8 = 1 << last_place(k); // the last byte's bit
+    v % lowest == 0
 }
 
 // Whether n packed bytes, the last of them b, end in a group with a data byte and no unused place set.

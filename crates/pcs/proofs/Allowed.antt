@@ -1,5 +1,5 @@
 -- What the tests of fields say.
-use Prim.Native.Nat.{ℕ, _-_, _≤_}
+use Prim.Native.Nat.{ℕ, _≤_}
 use mathlib.Core.Path.{_≡_, refl}
 use mathlib.Core.Bool.{Bool, true, false, _&&_, _||_}
 use mathlib.Core.List.{List, []}
@@ -10,7 +10,7 @@ use borrow.Author.Tests.{leb-true, eq-eqb, eqb-true}
 use Rattle.runs.proofs.Cases.{and-both}
 use Rattle.packing.specs.Seven.{isSent}
 use Rattle.pcs.specs.Frame.{Message, plainOk, receiverOk, plainFieldsOk, kindOk, ok}
-use Rattle.pcs.specs.Rules.{stated, messageWith, fieldsOk}
+use Rattle.pcs.specs.Rules.{infoOk, kindOf, stated, messageWith, fieldsOk}
 
 or-right : (a b c : Bool) → (b ≡ true → c ≡ true) → a || b ≡ true → a || c ≡ true
 or-right true b c f h = refl
@@ -63,15 +63,15 @@ sendable m h =
 -- gathered bytes whose fields are allowed
 pub record Allowed (g : List ℕ) : Type 0 where
   pub plain : Plain (messageWith g [])
-  pub info : 4 ≤ getD g 2 0
+  pub info : infoOk (getD g 2 0) ≡ true
   pub high : isSent (getD g 4 0) ≡ true
   pub low : isSent (getD g 5 0) ≡ true
-  pub kind : kindOk (getD g 2 0 - 4) (stated g) ≡ true
+  pub kind : kindOk (kindOf g) (stated g) ≡ true
 
 pub allowed : (g : List ℕ) → fieldsOk g ≡ true → Allowed g
 allowed g h =
     let p = and-both (plainFieldsOk (messageWith g [])) _ h in
-    let i = and-both (leb 4 (getD g 2 0)) _ (p .1) in
+    let i = and-both (infoOk (getD g 2 0)) _ (p .1) in
     let j = and-both (isSent (getD g 4 0)) _ (i .1) in
-    let k = and-both (isSent (getD g 5 0)) (kindOk (getD g 2 0 - 4) (stated g)) (j .1) in
-    record { plain = plain (messageWith g []) (p .0); info = leb-true 4 (getD g 2 0) (i .0); high = j .0; low = k .0; kind = k .1 }
+    let k = and-both (isSent (getD g 5 0)) (kindOk (kindOf g) (stated g)) (j .1) in
+    record { plain = plain (messageWith g []) (p .0); info = i .0; high = j .0; low = k .0; kind = k .1 }

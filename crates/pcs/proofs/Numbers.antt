@@ -18,7 +18,7 @@ use Rattle.framing.proofs.Refusals.{either, Listed, none-listed, Closes, shown,
 use Rattle.packing.specs.Seven.{isSent}
 use Rattle.packing.specs.Unpacked.{allSent, wellEnded, wellPacked, unpacked}
 use Rattle.pcs.specs.Frame.{Message}
-use Rattle.pcs.specs.Rules.{Phase, hunting, inside, size, packedPart, tests, faultOf, unpack, onByte}
+use Rattle.pcs.specs.Rules.{Phase, hunting, inside, size, packedPart, same, tests, faultOf, unpack, onByte}
 use Rattle.pcs.specs.Contract.{link}
 use Rattle.pcs.specs.Claims.{streamNumbers}
 
@@ -54,7 +54,7 @@ full : (g : List ℕ) → length g ≡ size → (wire : List ℕ) × (onByte (in
 full g e = (253 ∷ g ++ (0 ∷ []), rw (le-ltb (length g) size (omega arith)))
 
 pub given : Given link streamNumbers
-unfolding sum faultOf isSent allSent wellEnded wellPacked unpacked
+unfolding sum same faultOf isSent allSent wellEnded wellPacked unpacked
 given =
     record {
       only = only;
@@ -70,10 +70,7 @@ given =
                 shown link 9 (253 ∷ 0 ∷ 1 ∷ 4 ∷ 1 ∷ 128 ∷ 128 ∷ 1 ∷ 1 ∷ 8 ∷ 254 ∷ []) refl refl,
                 (
                   shown link 10 (253 ∷ 1 ∷ 1 ∷ 4 ∷ 1 ∷ 128 ∷ 1 ∷ 1 ∷ 1 ∷ 138 ∷ 254 ∷ []) refl refl,
-                  (
-                    shown link 11 (253 ∷ 1 ∷ 1 ∷ 12 ∷ 1 ∷ 128 ∷ 128 ∷ 1 ∷ 1 ∷ 0 ∷ 254 ∷ []) refl refl,
-                    (shown link 13 (253 ∷ 1 ∷ 1 ∷ 4 ∷ 1 ∷ 128 ∷ 1 ∷ 1 ∷ 1 ∷ 1 ∷ 139 ∷ 254 ∷ []) refl refl, tt),
-                  ),
+                  (shown link 13 (253 ∷ 1 ∷ 1 ∷ 4 ∷ 1 ∷ 128 ∷ 1 ∷ 1 ∷ 1 ∷ 1 ∷ 139 ∷ 254 ∷ []) refl refl, tt),
                 ),
               ),
             ),

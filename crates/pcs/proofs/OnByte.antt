@@ -1,12 +1,12 @@
 -- What a byte does by the rules.
-use Prim.Native.Nat.{ℕ, suc, _+_, _-_, _/_, _%_, _^_, _≤_, _<_}
+use Prim.Native.Nat.{ℕ, _-_, _/_, _%_, _^_, _≤_, _<_}
 use mathlib.Core.Path.{_≡_, refl, ap, sym, _∙_}
 use mathlib.Core.Bool.{true}
 use mathlib.Core.List.{List, [], _∷_, _++_, append-nil, append-assoc}
 use mathlib.Core.Option.{Option, none, some}
 use native.Mathlib.Omega.{arith}
-use lib.ListN.{length, getD, take, drop, length-append, length-take, length-drop}
-use lib.Seq.{take-suc, take-all, take-add, take-append-seam}
+use lib.ListN.{length, getD, take, drop, length-append, take-append-drop}
+use lib.Seq.{take-take, take-append-seam}
 use borrow.Author.Tests.{le-leb}
 use Rattle.runs.specs.Runs.{Bytes, over}
 use Rattle.runs.proofs.Cases.{by-eqb, by-ltb}
@@ -18,13 +18,13 @@ use Rattle.packing.specs.Unpacked.{unpacked}
 use Rattle.packing.proofs.Seven.{value-sent}
 use Rattle.packing.proofs.Lengths.{length-packed}
 use Rattle.packing.proofs.Laws.{packed-unpacked, bytes-unpacked}
-use Rattle.checksum.specs.Sum.{sumOf}
-use Rattle.pcs.specs.Frame.{Message, ok, body, frame}
-use Rattle.pcs.specs.Rules.{Phase, hunting, inside, size, gathered, held, stated, packedPart, faultOf, messageWith, unpack, judge, onByte}
+use Rattle.pcs.specs.Frame.{Message, ok, body, trailer, trailing, frame}
+use Rattle.pcs.specs.Rules.{Phase, hunting, inside, size, gathered, held, hasCrc, bodyPart, trailerPart, packedPart, kindOf, stated, faultOf, messageWith, unpack, judge, onByte}
 use Rattle.pcs.specs.Contract.{frontOf, numbersOf, messageOf, link}
 use Rattle.pcs.proofs.Allowed.{kind-same, Allowed, allowed, sendable}
 use Rattle.pcs.proofs.Typed.{typed}
-use Rattle.pcs.proofs.Passed.{Passed, passed}
+use Rattle.pcs.proofs.Trailer.{info-back, whole}
+use Rattle.pcs.proofs.Passed.{Passed, passed, packed-most, nine}
 
 -- no more is gathered than the store holds
 abbrev pub reached : Reached link
@@ -58,43 +58,35 @@ first-eight (a ∷ b ∷ c ∷ d ∷ e ∷ f ∷ []) h = absurd (omega arith)
 first-eight (a ∷ b ∷ c ∷ d ∷ e ∷ f ∷ x ∷ []) h = absurd (omega arith)
 first-eight (a ∷ b ∷ c ∷ d ∷ e ∷ f ∷ x ∷ y ∷ t) h = refl
 
--- all but the last byte, and the last
-last-is : (g : List ℕ) → 1 ≤ length g → take (length g - 1) g ++ (getD g (length g - 1) 0 ∷ []) ≡ g
-last-is g h = sym (take-suc g (length g - 1) 0 (omega arith)) ∙ take-all (suc (length g - 1)) g (omega arith)
-
 -- a frame that passed every test
 module _ (g : List ℕ) (p : Passed g) (short : length g ≤ size) (d : List ℕ) (u : unpacked (packedPart g) ≡ some d) where
   f : Allowed g
   f = allowed g (p .fields)
 
-  long : 9 ≤ length g
-  long = p .long
-
   packed-is : packed d ≡ packedPart g
   packed-is = packed-unpacked (packedPart g) d u
 
   size-is : length (packed d) ≡ stated g
-  size-is = ap length packed-is ∙ simp (length-take, length-drop) (omega (arith, long, p .present))
+  size-is = ap length packed-is ∙ sym (p .present)
 
-  body-is : body (messageWith g d) ≡ take (length g - 1) g
+  body-is : body (messageWith g d) ≡ bodyPart g
   body-is =
-      let k : length g - 1 ≡ 8 + (length g - 9) = omega (arith, long) in
-      let i : 4 + (getD g 2 0 - 4) ≡ getD g 2 0 = omega (arith, f .info) in
+      let i = info-back (getD g 2 0) (f .info) in
       let h : length (packed d) / 128 ≡ getD g 4 0 % 128 = omega (arith, size-is) in
       let l : length (packed d) % 128 ≡ getD g 5 0 % 128 = omega (arith, size-is) in
       let a : sent (length (packed d) / 128) ≡ getD g 4 0 = ap sent h ∙ value-sent (getD g 4 0) (f .high) in
       let b : sent (length (packed d) % 128) ≡ getD g 5 0 = ap sent l ∙ value-sent (getD g 5 0) (f .low) in
       (λ j. getD g 0 0 ∷ getD g 1 0 ∷ i j ∷ getD g 3 0 ∷ a j ∷ b j ∷ getD g 6 0 ∷ getD g 7 0 ∷ packed-is j)
-      ∙ sym (ap (λ (x : List ℕ). x ++ packedPart g) (first-eight g (omega (arith, long))))
-      ∙ sym (take-add 8 (length g - 9) g)
-      ∙ ap (λ (x : ℕ). take x g) (sym k)
+      ∙ sym (ap (λ (x : List ℕ). x ++ packedPart g) (first-eight g (omega (arith, nine g p))))
+      ∙ ap (λ (x : List ℕ). x ++ packedPart g) (sym (take-take 8 (length g - trailing (hasCrc g)) g (omega (arith, p .long))))
+      ∙ take-append-drop 8 (bodyPart g)
 
   frame-is : frame (messageWith g d) ≡ 253 ∷ g ++ (254 ∷ [])
   frame-is =
-      ap (λ (x : List ℕ). 253 ∷ (x ++ (sumOf x ∷ 254 ∷ []))) body-is
-      ∙ ap (λ (x : ℕ). 253 ∷ (take (length g - 1) g ++ (x ∷ 254 ∷ []))) (sym (p .checked))
-      ∙ ap (λ (x : List ℕ). 253 ∷ x) (sym (append-assoc (take (length g - 1) g) (getD g (length g - 1) 0 ∷ []) (254 ∷ [])))
-      ∙ ap (λ (x : List ℕ). 253 ∷ (x ++ (254 ∷ []))) (last-is g (omega (arith, long)))
+      ap (λ (x : List ℕ). 253 ∷ (x ++ (trailer (hasCrc g) x ++ (254 ∷ [])))) body-is
+      ∙ ap (λ (x : List ℕ). 253 ∷ (bodyPart g ++ (x ++ (254 ∷ [])))) (sym (p .checked))
+      ∙ ap (λ (x : List ℕ). 253 ∷ x) (sym (append-assoc (bodyPart g) (trailerPart g) (254 ∷ [])))
+      ∙ ap (λ (x : List ℕ). 253 ∷ (x ++ (254 ∷ []))) (whole g)
 
   may-send : ok (messageWith g d) ≡ true
   may-send =
@@ -105,8 +97,8 @@ module _ (g : List ℕ) (p : Passed g) (short : length g ≤ size) (d : List ℕ
         f .plain .number,
         f .plain .sender-port,
         f .plain .receiver-port,
-        kind-same (getD g 2 0 - 4) (stated g) (length d) (λ z. omega (arith, size-is)) (f .kind),
-        le-leb (length d) 1024 (omega (arith, size-is, p .present)),
+        kind-same (kindOf g) (stated g) (length d) (λ z. omega (arith, size-is)) (f .kind),
+        le-leb (length d) 1024 (omega (arith, size-is, p .present, packed-most g p short)),
       )
 
 -- the end of a frame: an accepted message has the gathered bytes between its marks
@@ -135,6 +127,7 @@ read-back m store =
       number = m .number;
       sender-port = m .sender-port;
       receiver-port = m .receiver-port;
+      crc = m .crc;
       payload = here i;
     }
 

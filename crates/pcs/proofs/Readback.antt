@@ -1,14 +1,14 @@
 -- A hunting receiver reads back the frame of each message that may be sent, whatever follows it.
-use Prim.Native.Nat.{ℕ, zero, suc, _+_, _-_, _/_, _%_, _≤_, _<_}
-use mathlib.Core.Path.{_≡_, refl, ap, sym, _∙_, subst}
+use Prim.Native.Nat.{ℕ, zero, suc, _+_, _/_, _%_, _≤_, _<_}
+use mathlib.Core.Path.{_≡_, refl, ap, ap₂, sym, _∙_, subst}
 use mathlib.Core.Bool.{Bool, true, false, _||_}
 use mathlib.Core.List.{List, [], _∷_, _++_, append-nil, append-assoc}
 use mathlib.Core.Option.{some}
 use native.Mathlib.Omega.{arith}
 use lib.Dec.{eqb, lit<}
-use lib.ListN.{length, getD, take, length-append}
-use lib.Seq.{append-snoc, take-at, getD-at}
-use borrow.Author.Tests.{lt-ltb, le-leb, lt-leb, eq-eqb, ne-eqb, eqb-true}
+use lib.ListN.{length, getD, drop, length-append}
+use lib.Seq.{append-snoc}
+use borrow.Author.Tests.{lt-ltb, eq-eqb, ne-eqb, eqb-true}
 use Rattle.runs.specs.Runs.{Bytes}
 use Rattle.runs.proofs.Bytes.{bytes-append, bytes-one, bytes-more}
 use Rattle.framing.specs.Claims.{AllOf}
@@ -24,11 +24,14 @@ use Rattle.packing.proofs.Seven.{sent-value, sent-is, sent-range}
 use Rattle.packing.proofs.Lengths.{length-packed}
 use Rattle.packing.proofs.Laws.{unpacked-packed, packed-sent-at}
 use Rattle.checksum.specs.Sum.{sumOf}
+use Rattle.checksum.specs.Crc.{crc16Of}
 use Rattle.checksum.proofs.SumRange.{sum-range}
-use Rattle.pcs.specs.Frame.{Message, Typed, plainOk, receiverOk, ok, body, frame}
-use Rattle.pcs.specs.Rules.{hunting, inside, size, stated, packedPart, fieldsOk, faultOf, unpack, judge, onByte}
-use Rattle.pcs.proofs.Allowed.{kind-same, kind-most, plain-most, Sendable, sendable}
+use Rattle.checksum.proofs.CheckValue.{crc16-lt}
+use Rattle.pcs.specs.Frame.{Message, Typed, plainOk, receiverOk, ok, infoBase, body, trailer, trailing, frame}
+use Rattle.pcs.specs.Rules.{hunting, inside, size, hasCrc, bodyPart, trailerPart, packedPart, kindOf, stated, fieldsOk, faultOf, messageWith, unpack, judge, onByte}
+use Rattle.pcs.proofs.Trailer.{crc-back, kind-back, info-allowed, length-trailer, trailing-range, body-of, trailer-of}
 use Rattle.pcs.proofs.Passed.{Passed, no-fault}
+use Rattle.pcs.proofs.Allowed.{kind-same, kind-most, plain-most, Sendable, sendable}
 
 -- a byte that is gathered in an open frame
 abbrev Inner : ℕ → Type 0
@@ -68,10 +71,28 @@ gathers g (x ∷ xs) n p h =
     (step-open onByte (inside g) (inside (g ++ (x ∷ []))) n x (rw (ne-eqb x 253 (p .0 .1), ne-eqb x 254 (p .0 .2), lt-ltb (length g) size (omega arith))))
     (rw append-snoc at (gathers (g ++ (x ∷ [])) xs n (p .1) (simp length-append (omega arith))))
 
+sent-inner : {v : ℕ} → v < 128 → Inner (sent v)
+sent-inner {v} h = low-inner (sent v) (omega (arith, sent-range (sent v) (sent-is h) .1))
+
+info-inner : (crc : Bool) (k : ℕ) → k ≤ 3 → Inner (infoBase crc + k)
+info-inner true k h = low-inner (12 + k) (omega arith)
+info-inner false k h = low-inner (4 + k) (omega arith)
+
+-- the bytes of a trailer are inner ones
+trailer-inner : (crc : Bool) (b : List ℕ) → Bytes b → AllOf Inner (trailer crc b)
+trailer-inner false b y = (low-inner (sumOf b) (sum-range b .1), tt)
+trailer-inner true b y =
+    let c : ℕ = crc16Of b in
+    let l = crc16-lt b y in
+    (low-inner (sumOf b) (sum-range b .1), (sent-inner {v = c % 128} (omega arith), (sent-inner {v = c / 128 % 128} (omega arith), (sent-inner {v = c / 16384} (omega arith), tt))))
+
 -- the frame of a message that may be sent
 module _ (m : Message) (y : Bytes (m .payload)) (s : Sendable m) where
   run : List ℕ
-  run = body m ++ (sumOf (body m) ∷ [])
+  run = body m ++ trailer (m .crc) (body m)
+
+  few : m .kind ≤ 3
+  few = kind-most (m .kind) (length (m .payload)) (s .kind)
 
   most : length (packed (m .payload)) ≤ 1171
   most = omega (arith, length-packed (m .payload), s .most)
@@ -82,16 +103,13 @@ module _ (m : Message) (y : Bytes (m .payload)) (s : Sendable m) where
   low : length (packed (m .payload)) % 128 < 128
   low = omega arith
 
-  sent-inner : {v : ℕ} → v < 128 → Inner (sent v)
-  sent-inner {v} h = low-inner (sent v) (omega (arith, sent-range (sent v) (sent-is h) .1))
-
   body-inner : AllOf Inner (body m)
   body-inner = (
     receiver-inner (m .receiver) (s .plain .receiver),
     (
       plain-inner (m .sender) (s .plain .sender),
       (
-        low-inner (4 + m .kind) (omega (arith, kind-most (m .kind) (length (m .payload)) (s .kind))),
+        info-inner (m .crc) (m .kind) few,
         (
           plain-inner (m .number) (s .plain .number),
           (
@@ -114,30 +132,40 @@ module _ (m : Message) (y : Bytes (m .payload)) (s : Sendable m) where
 
   run-inner : AllOf Inner run
   unfolding run
-  run-inner = all-append Inner (body m) (sumOf (body m) ∷ []) body-inner (low-inner (sumOf (body m)) (sum-range (body m) .1), tt)
+  run-inner = all-append Inner (body m) (trailer (m .crc) (body m)) body-inner (trailer-inner (m .crc) (body m) (inner-bytes (body m) body-inner))
 
-  run-length : length run ≡ 9 + length (packed (m .payload))
+  run-length : length run ≡ 8 + length (packed (m .payload)) + trailing (m .crc)
   unfolding run
-  run-length = length-append (body m) (sumOf (body m) ∷ []) ∙ omega arith
+  run-length = length-append (body m) (trailer (m .crc) (body m)) ∙ omega (arith, length-trailer (m .crc) (body m))
 
-  body-front : take (length run - 1) run ≡ body m
+  crc-is : hasCrc run ≡ m .crc
   unfolding run
-  body-front = take-at (body m) (sumOf (body m) ∷ []) (length run - 1) (omega (arith, run-length))
+  crc-is = crc-back (m .crc) (m .kind) few
 
-  sum-last : getD run (length run - 1) 0 ≡ sumOf (body m)
+  trailer-length : length (trailer (m .crc) (body m)) ≡ trailing (hasCrc run)
+  trailer-length = length-trailer (m .crc) (body m) ∙ ap trailing (sym crc-is)
+
+  body-front : bodyPart run ≡ body m
   unfolding run
-  sum-last = getD-at (body m) (sumOf (body m)) [] 0 (length run - 1) (omega (arith, run-length))
+  body-front = body-of (body m) (trailer (m .crc) (body m)) trailer-length
+
+  trailer-last : trailerPart run ≡ trailer (m .crc) (body m)
+  unfolding run
+  trailer-last = trailer-of (body m) (trailer (m .crc) (body m)) trailer-length
 
   packed-front : packedPart run ≡ packed (m .payload)
-  unfolding run
-  packed-front = take-at (packed (m .payload)) (sumOf (body m) ∷ []) (length run - 9) (omega (arith, run-length))
+  packed-front = ap (drop 8) body-front
 
   stated-is : stated run ≡ length (packed (m .payload))
   unfolding run
   stated-is = rw (sent-value high, sent-value low) (omega arith)
 
-  kind-is : 4 + m .kind - 4 ≡ m .kind
-  kind-is = omega arith
+  info-is : getD run 2 0 ≡ infoBase (m .crc) + m .kind
+  unfolding run
+  info-is = refl
+
+  kind-is : kindOf run ≡ m .kind
+  kind-is = ap (λ (i : ℕ). i % 4) info-is ∙ kind-back (m .crc) (m .kind) few
 
   fields-pass : fieldsOk run ≡ true
   unfolding run
@@ -148,7 +176,7 @@ module _ (m : Message) (y : Bytes (m .payload)) (s : Sendable m) where
         s .plain .number,
         s .plain .sender-port,
         s .plain .receiver-port,
-        le-leb 4 (4 + m .kind) (omega arith),
+        info-allowed (m .crc) (m .kind) few,
         sent-is high,
         sent-is low,
         kind-is,
@@ -156,23 +184,34 @@ module _ (m : Message) (y : Bytes (m .payload)) (s : Sendable m) where
       )
       (kind-same (m .kind) (length (m .payload)) (length (packed (m .payload))) (λ z. omega (arith, length-packed (m .payload))) (s .kind))
 
-  -- below 12 no CRC is asked for
   passes : Passed run
-  unfolding run
   passes =
       record {
-        long = omega (arith, run-length);
-        plain = rw (lt-leb 12 (4 + m .kind) (omega (arith, kind-most (m .kind) (length (m .payload)) (s .kind))));
-        checked = sum-last ∙ ap sumOf (sym body-front);
+        long = omega (arith, run-length, ap trailing crc-is);
+        plain = λ e. omega (arith, run-length, most, ap trailing (sym crc-is ∙ e));
+        checked = trailer-last ∙ ap₂ trailer (sym crc-is) (sym body-front);
         fields = fields-pass;
-        present = stated-is ∙ omega (arith, run-length);
+        present = stated-is ∙ ap length (sym packed-front);
+      }
+
+  message-is : messageWith run (m .payload) ≡ m
+  unfolding run
+  message-is =
+      λ i. record {
+        receiver = m .receiver;
+        sender = m .sender;
+        kind = kind-is i;
+        number = m .number;
+        sender-port = m .sender-port;
+        receiver-port = m .receiver-port;
+        crc = crc-is i;
+        payload = m .payload;
       }
 
   accepts : (w : List ℕ) → judge run w ≡ acceptedFrame m
-  unfolding run
   accepts w =
       rw (eq-eqb (faultOf run) 0 (no-fault run passes))
-      (ap (unpack run w) (ap unpacked packed-front ∙ unpacked-packed (m .payload) y) ∙ rw kind-is)
+      (ap (unpack run w) (ap unpacked packed-front ∙ unpacked-packed (m .payload) y) ∙ ap acceptedFrame message-is)
 
   reads-run : (rest : List ℕ) (n : ℕ)
       → feed (step onByte) (at hunting n) (((253 ∷ run) ++ (254 ∷ [])) ++ rest)
@@ -182,11 +221,11 @@ module _ (m : Message) (y : Bytes (m .payload)) (s : Sendable m) where
       (step-accept onByte (inside run) hunting n 254 m (ap (λ (x : Segment Message). (hunting, some x)) (accepts _)))
     where
       quiet : Quiet (step onByte) (at hunting n) (253 ∷ run) (at (inside run) n)
-      quiet = quiet-cons (step onByte) refl (gathers [] run n run-inner (omega (arith, run-length, most)))
+      quiet = quiet-cons (step onByte) refl (gathers [] run n run-inner (omega (arith, run-length, most, trailing-range (m .crc) .1)))
 
   frame-run : frame m ≡ (253 ∷ run) ++ (254 ∷ [])
   unfolding run
-  frame-run = ap (λ (x : List ℕ). 253 ∷ x) (sym (append-assoc (body m) (sumOf (body m) ∷ []) (254 ∷ [])))
+  frame-run = ap (λ (x : List ℕ). 253 ∷ x) (sym (append-assoc (body m) (trailer (m .crc) (body m)) (254 ∷ [])))
 
   run-bytes : Bytes ((253 ∷ run) ++ (254 ∷ []))
   run-bytes = bytes-more (253 ∷ run) 254 (bytes-append (253 ∷ []) run (bytes-one 253 (lit< tt)) (inner-bytes run run-inner)) (lit< tt)

@@ -11,23 +11,23 @@ use Rattle.runs.proofs.Cases.{by-eqb}
 use Rattle.framing.specs.Segment.{Segment}
 use Rattle.framing.specs.declared.State.{State}
 use Rattle.framing.proofs.States.{count-within}
+use Rattle.pcs.specs.Frame.{trailing}
 use Rattle.pcs.specs.Frame as Frame
-use Rattle.pcs.specs.Rules.{Phase, hunting, size, gathered, held, packedPart, onByte}
+use Rattle.pcs.specs.Rules.{Phase, hunting, size, gathered, held, hasCrc, packedPart, onByte}
 use Rattle.pcs.specs.Contract.{modeOf, phaseOf, frontOf}
 use Rattle.pcs.specs.Steps.{ByRules}
 use Rattle.pcs.specs.declared.Stepped.{Stepped}
+use Rattle.pcs.proofs.Passed.{packed-length}
 use Rattle.pcs.proofs.OnByte.{takes}
 
-module _ (store : List ℕ) (at : ℕ) where
-  -- the packed bytes of the first so many of a store
-  pub packed-at : 9 ≤ at → at ≤ length store → packedPart (take at store) ≡ take (at - 9) (drop 8 store)
-  packed-at l h =
-      let k : at ≡ 8 + (at - 8) = omega arith in
-      rw (length-take-le at store h)
-      (ap (λ (n : ℕ). take (at - 9) (drop 8 (take n store))) k
-      ∙ ap (λ (x : List ℕ). take (at - 9) (drop 8 x)) (take-add 8 (at - 8) store)
-      ∙ ap (take (at - 9)) (drop-at (take 8 store) (take (at - 8) (drop 8 store)) 8 (length-take-le 8 store (omega arith)))
-      ∙ take-take (at - 9) (at - 8) (drop 8 store) (omega arith))
+-- the n packed bytes of the first so many of a store stand behind the header of 8
+pub packed-at : (store : List ℕ) (at n : ℕ) → n ≡ length (packedPart (take at store)) → 8 + trailing (hasCrc (take at store)) ≤ at → at ≤ length store
+    → packedPart (take at store) ≡ take n (drop 8 store)
+packed-at store at n e l h =
+    let k : length (take at store) - trailing (hasCrc (take at store)) ≡ 8 + n = omega (arith, e ∙ packed-length (take at store), length-take-le at store h) in
+    ap (λ (m : ℕ). drop 8 (take m (take at store))) k
+    ∙ ap (drop 8) (take-take (8 + n) at store (omega (arith, length-take-le at store h)) ∙ take-add 8 n store)
+    ∙ drop-at (take 8 store) (take n (drop 8 store)) 8 (length-take-le 8 store (omega arith))
 
 -- hunting writes nothing
 pub hunting-store : (store : List ℕ) (b : ℕ) → over (frontOf (onByte hunting b)) store ≡ store

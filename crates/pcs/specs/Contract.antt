@@ -43,6 +43,7 @@ numbersWith m n =
       number = m .number;
       «sender_port» = m .sender-port;
       «receiver_port» = m .receiver-port;
+      crc = m .crc;
       length = n;
     }
 
@@ -51,7 +52,7 @@ numbersOf m = numbersWith m (length (m .payload))
 
 -- and back: the message of such numbers, with its data
 abbrev pub withData : Message → List ℕ → Frame.Message
-withData m d = withFields (m .receiver) (m .sender) (m .kind) (m .number) (m .«sender_port») (m .«receiver_port») d
+withData m d = withFields (m .receiver) (m .sender) (m .kind) (m .number) (m .«sender_port») (m .«receiver_port») (m .crc) d
 
 -- the data of a message: the part of the store from place 0
 abbrev pub dataOf : List ℕ → Message → List ℕ

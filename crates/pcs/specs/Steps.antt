@@ -1,22 +1,36 @@
 -- What the private functions answer: the steps of a call.
-use Prim.Native.Nat.{ℕ, _≤_}
+use Prim.Native.Nat.{ℕ, _+_, _-_, _≤_}
 use mathlib.Core.Path.{_≡_}
-use mathlib.Core.List.{List}
+use mathlib.Core.Bool.{Bool, _&&_, not}
+use mathlib.Core.List.{List, [], _∷_}
 use mathlib.Core.Option.{Option}
-use lib.ListN.{length}
+use lib.Dec.{ltb}
+use lib.ListN.{length, take, drop}
 use Rattle.framing.specs.Answer.{Outcome, done, refused}
+use Rattle.framing.specs.Tests.{firstOf}
 use Rattle.framing.specs.Segment.{Segment, eventOf}
 use Rattle.framing.specs.State.{stateAfter}
 use Rattle.framing.specs.Link.{Lent, Told, accepted, told}
 use Rattle.framing.specs.Link as Link
 use Rattle.framing.specs.Passing.{Leads}
 use Rattle.framing.specs.declared.State.{State}
+use Rattle.pcs.specs.Frame.{trailer, trailing}
 use Rattle.pcs.specs.Frame as Frame
-use Rattle.pcs.specs.Rules.{Phase, size, gathered, held}
+use Rattle.pcs.specs.Rules.{Phase, size, plainSize, gathered, held, same}
 use Rattle.pcs.specs.Contract.{modeOf, numbersWith, link, toldOf}
 use Rattle.pcs.specs.declared.Message.{Message}
 use Rattle.pcs.specs.declared.Stepped.{Stepped}
 use Rattle.framing.specs.declared.Reached.{Reached}
+
+-- the first three tests of gathered bytes, taken as a frame with or without a CRC
+abbrev pub trailerFault : Bool → List ℕ → ℕ
+trailerFault crc g =
+    let end = length g - trailing crc in
+    firstOf
+    ((ltb (length g) (8 + trailing crc), 6)
+    ∷ (not crc && ltb plainSize (length g), 5)
+    ∷ (not (same (drop end g) (trailer crc (take end g))), 8)
+    ∷ [])
 
 -- what is told of a message once its data are unpacked, or badly packed
 abbrev pub toldWith : Frame.Message → Outcome ℕ → Told Message

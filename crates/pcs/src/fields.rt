@@ -2,11 +2,10 @@
 use super::Message;
 ghost use mathlib.Core.Path.{_≡_};
 ghost use mathlib.Core.List.{[]};
-ghost use mathlib.Core.Bool.{_&&_};
-ghost use Prim.Native.Nat.{_+_, _-_, _*_};
-ghost use lib.Dec.{leb};
+ghost use Prim.Native.Nat.{_+_, _*_, _%_};
 ghost use Rattle.packing.specs.Seven.{valueOf};
-ghost use Rattle.pcs.specs.Frame.{plainOk, receiverOk, plainFieldsOk, kindOk};
+ghost use Rattle.pcs.specs.Frame.{plainOk, receiverOk, plainFieldsOk, kindOk, infoBase, trailing};
+ghost use Rattle.pcs.specs.Rules.{crcInfo, infoOk};
 ghost use Rattle.pcs.specs.Contract.{withData};
 
 // The first byte of a frame.
@@ -47,18 +46,39 @@ pub fn plain_fields_ok(message: Message) -> bool
         && plain_ok(message.receiver_port)
 }
 
-// Whether an info byte asks for a CRC.
-pub fn asks_crc(info: u8) -> bool
-    ensures { λ r. ⌜ r ≡ (leb 12 info && leb info 15) ⌝ }
+// Whether a frame with this info byte has a CRC.
+pub fn crc_info(info: u8) -> bool
+    ensures { λ r. ⌜ r ≡ crcInfo info ⌝ }
 {
     12 <= info && info <= 15
 }
 
+// Whether an info byte is allowed.
+pub fn info_ok(info: u8) -> bool
+    ensures { λ r. ⌜ r ≡ infoOk info ⌝ }
+{
+    if info <= 7 { 4 <= info } else { crc_info(info) }
+}
+
+// What an info byte is above the kind.
+pub fn info_base(crc: bool) -> u8
+    ensures { λ r. ⌜ r ≡ infoBase crc ⌝ }
+{
+    if crc { 12 } else { 4 }
+}
+
+// How many bytes follow the body.
+pub fn trailing(crc: bool) -> usize
+    ensures { λ r. ⌜ r ≡ trailing crc ⌝ }
+{
+    if crc { 4 } else { 1 }
+}
+
 // The kind that an info byte gives.
 pub fn kind_of(info: u8) -> u8
-    ensures { λ r. ⌜ r ≡ info - 4 ⌝ }
+    ensures { λ r. ⌜ r ≡ info % 4 ⌝ }
 {
-    if info < 4 { 0 } else { info - 4 }
+    info % 4
 }
 
 // The length that two bytes state, seven bits each.

@@ -8,22 +8,26 @@ use framing::State;
 use framing::refusal;
 ghost use mathlib.Core.Path.{_≡_};
 ghost use mathlib.Core.List.{List, []};
+ghost use mathlib.Core.Bool.{true, false};
 ghost use mathlib.Core.Option.{some};
-ghost use Prim.Native.Nat.{ℕ, _≤_};
-ghost use lib.ListN.{length, take};
+ghost use Prim.Native.Nat.{ℕ, _+_, _≤_};
+ghost use lib.ListN.{length, take, drop};
 ghost use Rattle.runs.specs.Runs.{over};
 ghost use Rattle.framing.specs.Answer.{outcomeOf};
 ghost use Rattle.framing.specs.Writer.{writes};
 ghost use Rattle.framing.specs.Receiver.{feed};
 ghost use Rattle.framing.specs.Segment.{eventOf};
 ghost use Rattle.framing.specs.Link.{isEvent, told, stepOn, reported, receives};
-ghost use Rattle.pcs.specs.Frame.{withFields, ok, frame};
-ghost use Rattle.pcs.specs.Rules.{hunting, inside, size, fieldsOk, faultOf, messageWith, judge, gather, onByte};
+ghost use Rattle.pcs.specs.Frame.{withFields, ok, crcBytes, frame};
+ghost use Rattle.pcs.specs.Rules.{hunting, inside, size, same, fieldsOk, faultOf, messageWith, judge, gather, onByte};
 ghost use Rattle.pcs.specs.Contract.{phaseOf, frontOf, numbersOf, withData, dataOf, link, toldOf, receivedOf};
-ghost use Rattle.pcs.specs.Steps.{toldWith, ByRules, Open, Passes};
+ghost use Rattle.pcs.specs.Steps.{trailerFault, toldWith, ByRules, Open, Passes};
 
-// The least store of a receiver: a header of 8 bytes, at most 1,171 packed bytes, the sum.
-const SIZE: usize = 1180;
+// The least store of a receiver: a header of 8 bytes, at most 1,171 packed bytes, the sum, three bytes of CRC.
+const SIZE: usize = 1183;
+
+// The most bytes of a frame without a CRC.
+const PLAIN_SIZE: usize = 1180;
 
 // The numbers of a message. The data of an accepted one lie in the store from place 0.
 pub struct Message {
@@ -33,6 +37,7 @@ pub struct Message {
     pub number: u8,
     pub sender_port: u8,
     pub receiver_port: u8,
+    pub crc: bool,
     pub length: usize,
 }
 
@@ -64,12 +69,13 @@ pub fn write(
     number: u8,
     sender_port: u8,
     receiver_port: u8,
+    crc: bool,
     data: &[u8],
     out: &mut [u8],
 ) -> Answer
     ensures { λ r. ⌜ (outcomeOf r, now (out .exit))
         ≡ writes ok frame
-        (withFields receiver sender kind number «sender_port» «receiver_port» (now («data» .entry))) (now (out .entry)) ⌝ }
+        (withFields receiver sender kind number «sender_port» «receiver_port» crc (now («data» .entry))) (now (out .entry)) ⌝ }
 {
     let message = Message {
         receiver: receiver,
@@ -78,6 +84,7 @@ pub fn write(
         number: number,
         sender_port: sender_port,
         receiver_port: receiver_port,
+        crc: crc,
         length: data.len(),
     };
     writer::write_message(message, data, out)
@@ -128,13 +135,16 @@ fn numbers_of(gathered: &[u8]) -> Message
     requires { ⌜ 9 ≤ length (now gathered) ⌝ }
     ensures { λ r. ⌜ r ≡ numbersOf (messageWith (now (gathered .entry)) []) ⌝ }
 {
+    let info = gathered[2];
+    let crc = fields::crc_info(info);
     Message {
         receiver: gathered[0],
         sender: gathered[1],
-        kind: fields::kind_of(gathered[2]),
+        kind: fields::kind_of(info),
         number: gathered[3],
         sender_port: gathered[6],
         receiver_port: gathered[7],
+        crc: crc,
         length: 0,
     }
 }
@@ -148,31 +158,89 @@ fn fields_ok(gathered: &[u8]) -> bool
     let high = gathered[4];
     let low = gathered[5];
     fields::plain_fields_ok(numbers)
-        && 4 <= gathered[2]
+        && fields::info_ok(gathered[2])
         && packing::is_sent(high)
         && packing::is_sent(low)
         && fields::kind_ok(numbers.kind, fields::stated_by(high, low))
+}
+
+// Whether the bytes from a place to the end are the three of a CRC of this value.
+fn crc_right(gathered: &[u8], at: usize, value: u16) -> bool
+    requires { ⌜ at + 3 ≡ length (now gathered) ⌝ }
+    ensures { λ r. ⌜ r ≡ same (drop at (now (gathered .entry))) (crcBytes value) ⌝ }
+{
+    if gathered[at] != packing::sent_as((value % 128) as u8) {
+        return false;
+    }
+    if gathered[at + 1] != packing::sent_as((value / 128 % 128) as u8) {
+        return false;
+    }
+    gathered[at + 2] == packing::sent_as((value / 16384) as u8)
+}
+
+// 6, 5 or 8 where gathered bytes are too few, too many or wrongly checked for a frame without a CRC, else 0.
+fn plain_fault(gathered: &[u8]) -> u8
+    ensures { λ r. ⌜ r ≡ trailerFault false (now (gathered .entry)) ⌝ }
+{
+    let count = gathered.len();
+    if count < 9 {
+        return refusal::TOO_SHORT;
+    }
+    if PLAIN_SIZE < count {
+        return refusal::TOO_LONG;
+    }
+    let end = count - 1;
+    if gathered[end] != checksum::sum(&gathered[..end]) {
+        return refusal::WRONG_CHECK;
+    }
+    0
+}
+
+// 6 or 8 where gathered bytes are too few or wrongly checked for a frame with a CRC, else 0.
+fn crc_fault(gathered: &[u8]) -> u8
+    ensures { λ r. ⌜ r ≡ trailerFault true (now (gathered .entry)) ⌝ }
+{
+    let count = gathered.len();
+    if count < 12 {
+        return refusal::TOO_SHORT;
+    }
+    let end = count - 4;
+    if gathered[end] != checksum::sum(&gathered[..end]) {
+        return refusal::WRONG_CHECK;
+    }
+    if !crc_right(gathered, end + 1, checksum::crc16(0, &gathered[..end])) {
+        return refusal::WRONG_CHECK;
+    }
+    0
+}
+
+// The same for a frame of either sort.
+fn trailer_fault(gathered: &[u8], crc: bool) -> u8
+    ensures { λ r. ⌜ r ≡ trailerFault crc (now (gathered .entry)) ⌝ }
+{
+    if crc {
+        crc_fault(gathered)
+    } else {
+        plain_fault(gathered)
+    }
 }
 
 // The number of the first test before unpacking that a frame's gathered bytes fail, 0 where they pass all.
 fn fault_of(gathered: &[u8]) -> u8
     ensures { λ r. ⌜ r ≡ faultOf (now (gathered .entry)) ⌝ }
 {
-    let count = gathered.len();
-    if count < 9 {
-        return refusal::TOO_SHORT;
+    if gathered.len() < 9 {
+        return refusal::TOO_SHORT; // of either sort, and there may be no info
     }
-    if fields::asks_crc(gathered[2]) {
-        return refusal::CRC_ASKED;
-    }
-    let end = count - 1;
-    if gathered[end] != checksum::sum(&gathered[..end]) {
-        return refusal::WRONG_CHECK;
+    let crc = fields::crc_info(gathered[2]);
+    let fault = trailer_fault(gathered, crc);
+    if fault != 0 {
+        return fault;
     }
     if !fields_ok(gathered) {
         return refusal::WRONG_FIELD;
     }
-    if fields::stated_by(gathered[4], gathered[5]) != count - 9 {
+    if fields::stated_by(gathered[4], gathered[5]) != gathered.len() - fields::trailing(crc) - 8 {
         return refusal::WRONG_LENGTH;
     }
     0
@@ -204,7 +272,8 @@ fn judge_frame(store: &mut [u8], count: usize) -> Event
         return Event::Refused(fault);
     }
     let numbers = numbers_of(&store[..count]);
-    let unpacked = packing::unpack_in_place(store, 8, count - 9);
+    let packed = fields::stated_by(store[4], store[5]);
+    let unpacked = packing::unpack_in_place(store, 8, packed);
     told_of(numbers, unpacked)
 }
 

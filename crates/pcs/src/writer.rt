@@ -3,14 +3,14 @@ use super::Message;
 use super::fields;
 use framing::Answer;
 ghost use mathlib.Core.Path.{_≡_};
-ghost use mathlib.Core.List.{[], _∷_};
-ghost use Prim.Native.Nat.{_+_, _≤_, _<_};
-ghost use lib.ListN.{length};
+ghost use mathlib.Core.List.{[], _∷_, _++_};
+ghost use Prim.Native.Nat.{_+_, _-_, _≤_, _<_};
+ghost use lib.ListN.{length, take, drop};
 ghost use lib.Seq.{sets};
 ghost use Rattle.framing.specs.Answer.{outcomeOf};
 ghost use Rattle.framing.specs.Writer.{writes};
 ghost use Rattle.packing.specs.Packed.{packedLength};
-ghost use Rattle.pcs.specs.Frame.{ok, header, frame};
+ghost use Rattle.pcs.specs.Frame.{ok, header, crcBytes, trailer, trailing, frame};
 ghost use Rattle.pcs.specs.Contract.{withData};
 
 // Whether a message may be sent.
@@ -29,10 +29,11 @@ fn put_header(message: Message, packed: usize, out: &mut [u8])
 {
     let high = packing::sent_as((packed / 128) as u8);
     let low = packing::sent_as((packed % 128) as u8);
+    let info = fields::info_base(message.crc) + message.kind;
     out[0] = fields::START;
     out[1] = message.receiver;
     out[2] = message.sender;
-    out[3] = 4 + message.kind;
+    out[3] = info;
     out[4] = message.number;
     out[5] = high;
     out[6] = low;
@@ -40,27 +41,46 @@ fn put_header(message: Message, packed: usize, out: &mut [u8])
     out[8] = message.receiver_port;
 }
 
-// Stores the sum and the end mark from a place on.
-fn put_end(out: &mut [u8], at: usize, sum: u8)
-    requires { ⌜ at + 2 ≤ length (now out) ⌝ }
-    ensures { λ r. ⌜ now (out .exit) ≡ sets (now (out .entry)) at (sum ∷ 254 ∷ []) ⌝ }
+// Stores the three bytes of a CRC of this value and the end mark from a place on.
+fn put_crc(out: &mut [u8], at: usize, value: u16)
+    requires { ⌜ at + 4 ≤ length (now out) ⌝ }
+    ensures { λ r. ⌜ now (out .exit) ≡ sets (now (out .entry)) at (crcBytes value ++ (254 ∷ [])) ⌝ }
 {
-    out[at] = sum;
-    out[at + 1] = fields::END;
+    let low = packing::sent_as((value % 128) as u8);
+    let middle = packing::sent_as((value / 128 % 128) as u8);
+    let top = packing::sent_as((value / 16384) as u8);
+    out[at] = low;
+    out[at + 1] = middle;
+    out[at + 2] = top;
+    out[at + 3] = fields::END;
+}
+
+// Stores the trailer of the body, which stands behind the start mark up to a place, and the end mark from that place on.
+fn put_end(out: &mut [u8], at: usize, crc: bool)
+    requires { ⌜ (1 ≤ at) × (at + trailing crc < length (now out)) ⌝ }
+    ensures { λ r. ⌜ now (out .exit)
+        ≡ sets (now (out .entry)) at (trailer crc (take (at - 1) (drop 1 (now (out .entry)))) ++ (254 ∷ [])) ⌝ }
+{
+    let sum = checksum::sum(&out[1..at]);
+    if crc {
+        let value = checksum::crc16(0, &out[1..at]);
+        out[at] = sum;
+        put_crc(out, at + 1, value);
+    } else {
+        out[at] = sum;
+        out[at + 1] = fields::END;
+    }
 }
 
 // Stores a frame at the start, with so many packed bytes.
 fn put_frame(message: Message, data: &[u8], packed: usize, out: &mut [u8])
     requires { ⌜ (message .kind ≤ 3) × (length (now «data») ≤ 1024)
-        × (packed ≡ packedLength (length (now «data»))) × (11 + packed ≤ length (now out)) ⌝ }
+        × (packed ≡ packedLength (length (now «data»))) × (10 + packed + trailing (message .crc) ≤ length (now out)) ⌝ }
     ensures { λ r. ⌜ now (out .exit) ≡ sets (now (out .entry)) 0 (frame (withData message (now («data» .entry)))) ⌝ }
 {
     put_header(message, packed, out);
     packing::pack_into(data, out, 9);
-    let end = 9 + packed;
-    let summed = &out[1..end];
-    let sum = checksum::sum(summed);
-    put_end(out, end, sum);
+    put_end(out, 9 + packed, message.crc);
 }
 
 // Writes the frame of a message at the start of the lent memory, and answers its length.
@@ -68,7 +88,7 @@ pub fn write_message(message: Message, data: &[u8], out: &mut [u8]) -> Answer
     ensures { λ r. ⌜ (outcomeOf r, now (out .exit)) ≡ writes ok frame (withData message (now («data» .entry))) (now (out .entry)) ⌝ }
 {
     let packed = packing::packed_length(data);
-    let end = 11 + packed;
+    let end = 10 + packed + fields::trailing(message.crc);
     let fault = framing::write_fault(may_send(message, data), end <= out.len());
     if fault == 0 {
         put_frame(message, data, packed, out);

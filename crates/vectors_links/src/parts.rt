@@ -14,6 +14,7 @@ fn part_pcs(store: &[u8], length: usize) -> usize {
         number: 1,
         sender_port: 1,
         receiver_port: 1,
+        crc: false,
         length: length,
     };
     pcs::data(store, message).len()

@@ -15,6 +15,11 @@ fn show_data(length: usize, data: &[u8]) {
     print::bytes(data);
 }
 
+// A choice as a number.
+fn bit_of(choice: bool) -> u8 {
+    if choice { 1 } else { 0 }
+}
+
 fn show_pcs_message(message: pcs::Message, store: &[u8]) {
     print::numbers(
         b"message",
@@ -25,6 +30,7 @@ fn show_pcs_message(message: pcs::Message, store: &[u8]) {
             message.number,
             message.sender_port,
             message.receiver_port,
+            bit_of(message.crc),
         ],
     );
     show_data(message.length, pcs::data(store, message));

@@ -12,13 +12,13 @@ ghost use Prim.Native.Nat.{_<_};
 
 // The number of the word that holds a writer's bytes, or an error byte. The room stands two words behind it.
 fn data_at(line: &[u8], link: u8) -> usize
-    ensures { λ r. ⌜ r < 8 ⌝ }
+    ensures { λ r. ⌜ r < 9 ⌝ }
 {
     if words::is(line, 0, b"write-error") {
         return 3;
     }
     match link {
-        PCS => 7,
+        PCS => 8,
         MDU => 2,
         DLE => 3,
         _ => 5,
@@ -33,6 +33,7 @@ fn write_pcs(line: &[u8], data: &[u8], out: &mut [u8]) -> Answer {
         words::byte(line, 4),
         words::byte(line, 5),
         words::byte(line, 6),
+        words::byte(line, 7) == 1,
         data,
         out,
     )

@@ -2,6 +2,8 @@
 
 use crate::gen::{self, Wire, Xorshift, WIRES};
 use crate::listing;
+use crate::pcs::Pcs;
+use crate::stream::{self, Event, Link, State};
 use std::fs;
 use std::io;
 use std::path::Path;
@@ -24,6 +26,15 @@ pub fn example() -> Vec<u8> {
     input
 }
 
+/// Document 000's acknowledgement, the same with CRC, and with a CRC that is wrong in its lowest place.
+pub fn boards() -> Vec<u8> {
+    let mut input = vec![b'P'];
+    input.extend([253, 250, 101, 6, 2, 128, 128, 1, 1, 105, 254]);
+    input.extend([253, 250, 101, 14, 2, 128, 128, 1, 1, 113, 42, 86, 2, 254]);
+    input.extend([253, 250, 101, 14, 2, 128, 128, 1, 1, 113, 43, 86, 2, 254]);
+    input
+}
+
 /// Capture number `index`: the first few fixed, the others generated.
 pub fn capture(random: &mut Xorshift, index: usize) -> Vec<u8> {
     match index {
@@ -33,6 +44,7 @@ pub fn capture(random: &mut Xorshift, index: usize) -> Vec<u8> {
         6 => return vec![b'p'],
         7 => return vec![b'\n', b'P'],
         8 => return vec![0],
+        9 => return boards(),
         _ => {}
     }
     if index % 16 == 9 {
@@ -67,14 +79,45 @@ pub fn capture(random: &mut Xorshift, index: usize) -> Vec<u8> {
     input
 }
 
-/// Writes capture-NNNNN.bin and capture-NNNNN.txt into `folder`.
-pub fn captures(folder: &Path, seed: u64, count: usize) -> io::Result<()> {
+/// PCS messages of a capture, without CRC and with it, which its listing doesn't tell.
+fn sorts(input: &[u8]) -> [usize; 2] {
+    let Some((b'P', mut rest)) = input.split_first() else { return [0, 0] };
+    let (mut state, mut store, mut sorts) = (State::default(), vec![0; Pcs::SIZE], [0, 0]);
+    while !rest.is_empty() {
+        let received = stream::receive::<Pcs>(rest, state, &mut store);
+        state = received.state;
+        rest = &rest[received.used..];
+        if let Event::Message(message) = received.event {
+            sorts[message.crc as usize] += 1;
+        }
+    }
+    sorts
+}
+
+/// Writes capture-NNNNN.bin and capture-NNNNN.txt into `folder`; how many PCS messages they have, without CRC and with it.
+pub fn captures(folder: &Path, seed: u64, count: usize) -> io::Result<[usize; 2]> {
     fs::create_dir_all(folder)?;
     let mut random = Xorshift::new(seed);
+    let mut seen = [0, 0];
     for index in 0..count {
         let input = capture(&mut random, index);
+        let [plain, crc] = sorts(&input);
+        seen = [seen[0] + plain, seen[1] + crc];
         fs::write(folder.join(format!("capture-{index:05}.bin")), &input)?;
         fs::write(folder.join(format!("capture-{index:05}.txt")), listing::listing(&input))?;
     }
-    Ok(())
+    Ok(seen)
+}
+
+#[cfg(test)]
+mod tests {
+    use super::*;
+
+    #[test]
+    fn sorts_are_told_apart() {
+        assert_eq!(sorts(&boards()), [1, 1]);
+        assert_eq!(sorts(&[boards(), boards()[12..26].to_vec()].concat()), [1, 2]);
+        assert_eq!(sorts(&example()), [0, 0]);
+        assert_eq!(sorts(&[]), [0, 0]);
+    }
 }

@@ -9,13 +9,13 @@ use crate::gen::{self, Wire, Xorshift};
 use crate::listing::hex;
 use crate::mdu::{self, Mdu};
 use crate::pcs::{self, Pcs};
-use crate::stream::Link;
+use crate::stream::{self, Link};
 use crate::whole;
 
 /// The C interface on slices.
 pub trait Host {
-    /// Receiver, sender, kind, number, sender's port, receiver's port.
-    fn pcs_write(&self, fields: [u8; 6], data: &[u8], out: &mut [u8]) -> i32;
+    /// Receiver, sender, kind, number, sender's port, receiver's port, CRC (0 or 1, above it 3).
+    fn pcs_write(&self, fields: [u8; 7], data: &[u8], out: &mut [u8]) -> i32;
     fn mdu_write(&self, address: u8, body: &[u8], out: &mut [u8]) -> i32;
     fn dle_write(&self, sequence: u8, node: u8, data: &[u8], out: &mut [u8]) -> i32;
     fn dle_write_error(&self, sequence: u8, node: u8, error: u8, out: &mut [u8]) -> i32;
@@ -36,12 +36,20 @@ fn writer_answer(result: Result<usize, u8>) -> i32 {
     }
 }
 
+/// The frame of what the C call is made with.
+fn pcs_frame(f: [u8; 7], data: &[u8]) -> Result<Vec<u8>, u8> {
+    match f[6] {
+        0 | 1 => pcs::frame(f[0], f[1], f[2], f[3], f[4], f[5], f[6] == 1, data),
+        _ => Err(3),
+    }
+}
+
 /// This implementation.
 pub struct Own;
 
 impl Host for Own {
-    fn pcs_write(&self, f: [u8; 6], data: &[u8], out: &mut [u8]) -> i32 {
-        writer_answer(pcs::write(f[0], f[1], f[2], f[3], f[4], f[5], data, out))
+    fn pcs_write(&self, f: [u8; 7], data: &[u8], out: &mut [u8]) -> i32 {
+        writer_answer(pcs_frame(f, data).and_then(|frame| stream::put(&frame, out)))
     }
     fn mdu_write(&self, address: u8, body: &[u8], out: &mut [u8]) -> i32 {
         writer_answer(mdu::write(address, body, out))
@@ -79,7 +87,7 @@ pub mod linked {
 
     extern "C" {
         fn linebox_pcs_write(
-            receiver: u8, sender: u8, kind: u8, number: u8, sender_port: u8, receiver_port: u8,
+            receiver: u8, sender: u8, kind: u8, number: u8, sender_port: u8, receiver_port: u8, crc: u8,
             data: *const u8, data_len: usize, out: *mut u8, out_len: usize,
         ) -> i32;
         fn linebox_mdu_write(address: u8, body: *const u8, body_len: usize, out: *mut u8, out_len: usize) -> i32;
@@ -100,10 +108,10 @@ pub mod linked {
     pub struct Linked;
 
     impl Host for Linked {
-        fn pcs_write(&self, f: [u8; 6], data: &[u8], out: &mut [u8]) -> i32 {
+        fn pcs_write(&self, f: [u8; 7], data: &[u8], out: &mut [u8]) -> i32 {
             unsafe {
                 linebox_pcs_write(
-                    f[0], f[1], f[2], f[3], f[4], f[5],
+                    f[0], f[1], f[2], f[3], f[4], f[5], f[6],
                     data.as_ptr(), data.len(), out.as_mut_ptr(), out.len(),
                 )
             }
@@ -154,7 +162,7 @@ const FUNCTIONS: [Function; 10] = [
     Function { name: "linebox_dle_write", refusals: &[2, 3] },
     Function { name: "linebox_dle_write_error", refusals: &[2] },
     Function { name: "linebox_expansion_write", refusals: &[2, 3] },
-    Function { name: "linebox_pcs_read", refusals: &[1, 4, 5, 6, 8, 9, 10, 11, 13] },
+    Function { name: "linebox_pcs_read", refusals: &[1, 4, 5, 6, 8, 9, 10, 13] },
     Function { name: "linebox_mdu_read", refusals: &[1, 6, 8, 9, 10] },
     Function { name: "linebox_dle_read", refusals: &[1, 4, 5, 6, 7, 10] },
     Function { name: "linebox_expansion_read", refusals: &[1, 4, 5, 6, 7, 8, 9] },
@@ -207,7 +215,7 @@ impl Call {
     fn on(&self, host: &dyn Host, input: &[u8], lent: &mut [u8]) -> Answer {
         let n = &self.numbers;
         match self.function {
-            0 => Answer::Writer(host.pcs_write([n[0], n[1], n[2], n[3], n[4], n[5]], input, lent)),
+            0 => Answer::Writer(host.pcs_write([n[0], n[1], n[2], n[3], n[4], n[5], n[6]], input, lent)),
             1 => Answer::Writer(host.mdu_write(n[0], input, lent)),
             2 => Answer::Writer(host.dle_write(n[0], n[1], input, lent)),
             3 => Answer::Writer(host.dle_write_error(n[0], n[1], n[2], lent)),
@@ -220,6 +228,15 @@ impl Call {
                 let start = u16::from_be_bytes([n[0], n[1]]);
                 Answer::Check(host.crc16(start, input), carried(host, start, &n[2..], input))
             }
+        }
+    }
+
+    /// Of a PCS frame: 0 where it was written, 1 where it was read, and whether it has a CRC.
+    fn sort(&self, answer: Answer) -> Option<(usize, bool)> {
+        match (self.function, answer) {
+            (0, Answer::Writer(length)) if length > 0 => Some((0, self.numbers[6] == 1)),
+            (5, Answer::Read(bits)) if bits & 255 == 0 => Some((1, bits >> 22 & 1 == 1)),
+            _ => None,
         }
     }
 }
@@ -257,9 +274,10 @@ fn pcs_written(random: &mut Xorshift, mut length: usize) -> Written {
         length = 0;
     }
     let receiver = if random.once_in(6) { 255 } else { field(random, 1, 250) };
-    let n = [receiver, field(random, 1, 250), kind, field(random, 1, 250), field(random, 1, 250), field(random, 1, 250)];
+    let (sender, number) = (field(random, 1, 250), field(random, 1, 250));
+    let n = [receiver, sender, kind, number, field(random, 1, 250), field(random, 1, 250), field(random, 0, 1)];
     let data = gen::contents(random, length);
-    let frame = pcs::frame(n[0], n[1], n[2], n[3], n[4], n[5], &data);
+    let frame = pcs_frame(n, &data);
     (n.to_vec(), data, frame.map(|frame| frame.len()))
 }
 
@@ -348,8 +366,12 @@ fn inside(memory: &mut [u8]) -> &mut [u8] {
     &mut memory[GUARD..end]
 }
 
-/// What a comparison found: counts of each answer, by function and number.
-pub struct Counts([[u64; 19]; FUNCTIONS.len()]);
+/// What a comparison found: counts of each answer, by function and number, and of
+/// the PCS frames written and read, without CRC and with it.
+pub struct Counts {
+    answers: [[u64; 19]; FUNCTIONS.len()],
+    sorts: [[u64; 2]; 2],
+}
 
 /// What a call left: the answer, the memory and the input, each with its canary.
 #[derive(PartialEq)]
@@ -389,7 +411,7 @@ fn difference(call: &Call, canary: &[u8], got: &Left, expected: &Left) -> String
 /// Compares `count` generated calls; the text of the first difference otherwise.
 pub fn compare(host: &dyn Host, seed: u64, count: u64) -> Result<Counts, String> {
     let mut random = Xorshift::new(seed);
-    let mut counts = Counts([[0; 19]; FUNCTIONS.len()]);
+    let mut counts = Counts { answers: [[0; 19]; FUNCTIONS.len()], sorts: [[0; 2]; 2] };
     for number in 0..count {
         // Reads have more to show than writers.
         let function = match number % 14 {
@@ -410,7 +432,10 @@ pub fn compare(host: &dyn Host, seed: u64, count: u64) -> Result<Counts, String>
             let text = difference(&call, &canary, &got, &expected);
             return Err(format!("difference at call {number} (seed {seed}): {text}"));
         }
-        counts.0[function][expected.answer.refusal() as usize] += 1;
+        counts.answers[function][expected.answer.refusal() as usize] += 1;
+        if let Some((way, crc)) = call.sort(expected.answer) {
+            counts.sorts[way][crc as usize] += 1;
+        }
     }
     Ok(counts)
 }
@@ -418,13 +443,13 @@ pub fn compare(host: &dyn Host, seed: u64, count: u64) -> Result<Counts, String>
 impl Counts {
     /// One row a function, one column a number; `.` where it can't be given.
     pub fn table(&self) -> String {
-        let numbers = [0usize, 1, 2, 3, 4, 5, 6, 7, 8, 9, 10, 11, 13];
+        let numbers = [0usize, 1, 2, 3, 4, 5, 6, 7, 8, 9, 10, 13];
         let mut text = format!("{:<24}", "function");
         for number in numbers {
             text += &if number == 0 { format!("{:>8}", "ok") } else { format!("{number:>8}") };
         }
         text += "\n";
-        for (function, row) in FUNCTIONS.iter().zip(&self.0) {
+        for (function, row) in FUNCTIONS.iter().zip(&self.answers) {
             text += &format!("{:<24}", function.name);
             for number in numbers {
                 let can = number == 0 || function.refusals.contains(&(number as u8));
@@ -432,13 +457,19 @@ impl Counts {
             }
             text += "\n";
         }
+        let [written, read] = self.sorts;
+        text += &format!("PCS frames written: {} plain, {} with CRC; ", written[0], written[1]);
+        text += &format!("read: {} plain, {} with CRC\n", read[0], read[1]);
         text
     }
 
-    /// Answers that a function can give and that were never seen, and the other way round.
+    /// Answers that a function can give and that were never seen, and the other way round; a sort of PCS frames never seen.
     pub fn missing(&self) -> Vec<String> {
         let mut missing = Vec::new();
-        for (function, row) in FUNCTIONS.iter().zip(&self.0) {
+        if self.sorts.concat().contains(&0) {
+            missing.push(String::from("a sort of PCS frames was never written or never read"));
+        }
+        for (function, row) in FUNCTIONS.iter().zip(&self.answers) {
             for (number, seen) in row.iter().enumerate() {
                 let can = number == 0 || function.refusals.contains(&(number as u8));
                 if can && *seen == 0 {
@@ -468,11 +499,57 @@ mod tests {
     /// One wrong answer at a time, which the comparison must find.
     struct Wrong(u8);
 
+    /// A frame with CRC, the byte at this place of its four check bytes put right.
+    fn put_right(frame: &[u8], place: usize) -> Vec<u8> {
+        let mut frame = frame.to_vec();
+        let checks = frame.len() - 5;
+        frame[checks + place] = pcs::checks(&frame[1..checks], true)[place];
+        frame
+    }
+
+    fn zeros_made_128(frame: &[u8]) -> Vec<u8> {
+        let (before, last) = frame.split_at(frame.len() - 5);
+        let last: Vec<u8> = last.iter().map(|byte| if *byte == 0 { 128 } else { *byte }).collect();
+        [before, &last].concat()
+    }
+
+    impl Wrong {
+        /// Answers of a reader that mistakes the rules of frames with CRC.
+        fn pcs_answer(&self, frame: &[u8], answer: u64) -> u64 {
+            let [253, gathered @ .., 254] = frame else { return answer };
+            let n = gathered.len();
+            let crc = pcs::asks_crc(gathered);
+            let again = |frame: Vec<u8>| Own.pcs_read(&frame, &mut [0; 1183]);
+            match self.0 {
+                19 => answer & !(1 << 22),
+                20 if answer == 6 && crc && (9..12).contains(&n) => 8, // the least of a plain frame
+                // 8 before 5, and 9 before 5, where a plain frame is too long
+                21 if answer == 5 && n <= 1183 && gathered[n - 1] != crate::sum::pcs(&gathered[..n - 1]) => 8,
+                22 if answer == 5 && n <= 1183 && gathered[2] > 7 => 9,
+                23 if answer == 8 && crc => again(zeros_made_128(frame)),
+                24..=27 if answer == 8 && crc => again(put_right(frame, self.0 as usize - 24)), // one byte not compared
+                28 if answer & 255 == 0 && n > 1180 => 5, // the size of a plain frame
+                29 if answer == 10 && crc => 13,
+                _ => answer,
+            }
+        }
+    }
+
     impl Host for Wrong {
-        fn pcs_write(&self, f: [u8; 6], data: &[u8], out: &mut [u8]) -> i32 {
+        fn pcs_write(&self, f: [u8; 7], data: &[u8], out: &mut [u8]) -> i32 {
+            match self.0 {
+                14 => return Own.pcs_write([f[0], f[1], f[2], f[3], f[4], f[5], f[6].min(1)], data, out),
+                15 if f[6] > 1 && out.len() < 11 => return -2, // 2 before 3
+                16 if f[6] == 1 && data.is_empty() && f[2] > 1 => return -3, // acknowledgements have it too
+                17 if f[6] == 1 && data.len() == 1024 => return -3,
+                _ => {}
+            }
             let answer = Own.pcs_write(f, data, out);
             if self.0 == 0 && answer > 0 && out.len() > answer as usize {
                 out[answer as usize] = 0; // a byte after the frame
+            }
+            if self.0 == 18 && answer > 0 && f[6] == 1 {
+                out.swap(answer as usize - 4, answer as usize - 2); // top bits first
             }
             answer
         }
@@ -505,10 +582,10 @@ mod tests {
             if self.0 == 5 && answer == 13 {
                 return 10;
             }
-            if self.0 == 6 && answer & 255 == 0 && store.len() > 1180 {
-                store[1180] = 0; // a byte behind the frame's
+            if self.0 == 6 && answer & 255 == 0 && store.len() > 1183 {
+                store[1183] = 0; // a byte behind the frame's
             }
-            answer
+            self.pcs_answer(frame, answer)
         }
         fn mdu_read(&self, frame: &[u8], store: &mut [u8]) -> u64 {
             if self.0 == 7 && frame.first() == Some(&0xFF) {
@@ -542,7 +619,7 @@ mod tests {
 
     #[test]
     fn each_wrong_answer_is_found() {
-        for wrong in 0..14 {
+        for wrong in 0..30 {
             assert!(compare(&Wrong(wrong), 1, 40_000).is_err(), "wrong answer {wrong} was not found");
         }
         assert!(compare(&Wrong(255), 1, 4000).is_ok());

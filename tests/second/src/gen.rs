@@ -4,6 +4,7 @@
 use crate::crc;
 use crate::escape;
 use crate::packing;
+use crate::pcs;
 use crate::sum;
 
 pub struct Xorshift(u64);
@@ -138,7 +139,8 @@ pub fn content_of(random: &mut Xorshift, wire: Wire, length: usize) -> Vec<u8> {
         Wire::Pcs => {
             let kind = if length == 0 { random.below(4) as u8 } else { random.below(2) as u8 };
             let receiver = if random.once_in(5) { 255 } else { between(random, 1, 250) };
-            bytes = vec![receiver, between(random, 1, 250), 4 + kind, between(random, 1, 250), 128, 128];
+            let info = random.pick(&[4, 12]) + kind;
+            bytes = vec![receiver, between(random, 1, 250), info, between(random, 1, 250), 128, 128];
             bytes.extend([between(random, 1, 250), between(random, 1, 250)]);
             bytes.extend(packing::pack(&contents(random, length)));
         }
@@ -186,16 +188,11 @@ pub fn restate(wire: Wire, content: &mut [u8]) {
     }
 }
 
-/// Check value (computed now, so also over damaged bytes), hiding and marks.
+/// Check values (computed now, so also over damaged bytes; PCS: those that the info asks for), hiding and marks.
 pub fn close(wire: Wire, content: &[u8]) -> Vec<u8> {
     let mut frame = Vec::new();
     match wire {
-        Wire::Pcs => {
-            frame.push(253);
-            frame.extend(content);
-            frame.push(sum::pcs(content));
-            frame.push(254);
-        }
+        Wire::Pcs => frame = between_marks(content, &pcs::checks(content, pcs::asks_crc(content))),
         Wire::Mdu => {
             frame.extend(content);
             let check = crc::crc16(0, content.get(6..).unwrap_or(&[]));
@@ -215,6 +212,11 @@ pub fn close(wire: Wire, content: &[u8]) -> Vec<u8> {
         }
     }
     frame
+}
+
+/// PCS: a body and these check bytes, whether they are its own or not.
+fn between_marks(body: &[u8], checks: &[u8]) -> Vec<u8> {
+    [&[253], body, checks, &[254]].concat()
 }
 
 pub fn valid(random: &mut Xorshift, wire: Wire) -> Vec<u8> {
@@ -259,7 +261,7 @@ pub fn damage(random: &mut Xorshift, bytes: &mut Vec<u8>, from: usize) {
     }
 }
 
-/// A header byte changed, the check values put right: 9, 10 and 11.
+/// A header byte changed, the check values put right: 9 and 10.
 fn header_changed(random: &mut Xorshift, wire: Wire) -> Vec<u8> {
     let length = if random.once_in(3) { data_length(random) } else { random.below(12) };
     let mut bytes = content_of(random, wire, length);
@@ -271,7 +273,7 @@ fn header_changed(random: &mut Xorshift, wire: Wire) -> Vec<u8> {
     };
     bytes[random.below(header)] = edge(random);
     if wire == Wire::Pcs && random.once_in(2) {
-        bytes[2] = 8 + random.below(10) as u8;
+        bytes[2] = 3 + random.below(15) as u8;
     }
     if random.once_in(4) {
         bytes[random.below(header)] = edge(random);
@@ -285,8 +287,9 @@ fn header_changed(random: &mut Xorshift, wire: Wire) -> Vec<u8> {
     }
     let mut frame = close(wire, &bytes);
     if random.once_in(6) {
-        // The check value wrong too.
-        let place = frame.len().saturating_sub(2);
+        // The check value wrong too; with PCS's CRC any byte of the two.
+        let behind = if wire == Wire::Pcs && pcs::asks_crc(&bytes) { 2 + random.below(4) } else { 2 };
+        let place = frame.len().saturating_sub(behind);
         frame[place] ^= 1 << random.below(3);
     }
     frame
@@ -339,7 +342,7 @@ fn data_damaged(random: &mut Xorshift, wire: Wire) -> Vec<u8> {
 }
 
 /// MDU lengths at their edges with a right header sum: 10, or a frame that
-/// waits for more. Other links: frames about the size of the store: 5.
+/// waits for more. Other links: frames about the size of the store: 5, on PCS also at the end.
 fn near_size(random: &mut Xorshift, wire: Wire) -> Vec<u8> {
     let length = 1021 + random.below(9);
     let mut bytes = content_of(random, wire, length);
@@ -348,13 +351,99 @@ fn near_size(random: &mut Xorshift, wire: Wire) -> Vec<u8> {
         bytes[2..4].copy_from_slice(&stated.to_be_bytes());
         bytes[5] = sum::modulo_256(&bytes[..5]);
     }
+    if wire == Wire::Pcs && random.once_in(3) {
+        // A plain frame is too long whatever its info.
+        bytes[2] = random.below(20) as u8;
+    }
     let mut frame = close(wire, &bytes);
+    if wire == Wire::Pcs && random.once_in(3) {
+        // And whatever its sum.
+        let place = frame.len() - 2 - random.below(4);
+        frame[place] ^= 1;
+    }
     if random.once_in(4) {
         // An ordinary byte more just before the end.
         let place = frame.len().saturating_sub(random.below(4));
         frame.insert(place, 0x55);
     }
     frame
+}
+
+/// PCS: a body with CRC, half of them with a number that makes one part of the CRC 0 if one does.
+fn body_with_crc(random: &mut Xorshift) -> Vec<u8> {
+    let length = if random.once_in(6) { data_length(random) } else { random.below(24) };
+    let mut body = content_of(random, Wire::Pcs, length);
+    body[2] |= 8;
+    if random.once_in(2) {
+        let part = random.below(3);
+        if let Some(number) = (1..=250).find(|number| pcs::crc_bytes(&with_number(&body, *number))[part] == 128) {
+            body[3] = number;
+        }
+    }
+    body
+}
+
+fn with_number(body: &[u8], number: u8) -> Vec<u8> {
+    let mut changed = body.to_vec();
+    changed[3] = number;
+    changed
+}
+
+/// PCS: check bytes as a mistaken reading of the rules has them, or one of them changed: 8, where they differ.
+fn checks_mistaken(random: &mut Xorshift) -> Vec<u8> {
+    let body = body_with_crc(random);
+    let mut checks = pcs::checks(&body, true);
+    let unpacked = packing::unpack(&body[8..]).unwrap_or_default();
+    let covered: [Vec<u8>; 4] = [
+        [&body[..], &checks[..1]].concat(), // the sum too
+        [&body[..8], &unpacked].concat(),   // before packing
+        body[8..].to_vec(),                 // the data alone
+        // Before 0 goes out as 128.
+        body.iter().map(|byte| if *byte == 128 { 0 } else { *byte }).collect(),
+    ];
+    match random.below(12) {
+        0..=3 => {
+            let place = random.below(4);
+            checks[place] = if random.once_in(2) { edge(random) } else { checks[place] ^ (1 << random.below(8)) };
+        }
+        4..=6 => checks.iter_mut().filter(|check| **check == 128).for_each(|check| *check = 0),
+        7 => checks[1..].reverse(),
+        8 => checks.rotate_left(1),
+        9 => {
+            let places = (random.below(4), random.below(4));
+            checks.swap(places.0, places.1);
+        }
+        _ => checks[1..].copy_from_slice(&pcs::crc_bytes(&covered[random.below(4)])),
+    }
+    between_marks(&body, &checks)
+}
+
+/// PCS: the info of the other sort, with the check bytes as they were, with right ones of the wrong sort, with the last
+/// byte right as a plain frame's sum, or with all put right.
+fn sort_changed(random: &mut Xorshift) -> Vec<u8> {
+    let mut body = content(random, Wire::Pcs);
+    let before = pcs::checks(&body, pcs::asks_crc(&body));
+    body[2] ^= 8;
+    let crc = pcs::asks_crc(&body);
+    match random.below(4) {
+        0 => between_marks(&body, &before),
+        1 => between_marks(&body, &pcs::checks(&body, !crc)),
+        2 => {
+            let body = [&body[..], &before[1..]].concat();
+            between_marks(&body, &pcs::checks(&body, false))
+        }
+        _ => close(Wire::Pcs, &body),
+    }
+}
+
+/// PCS: about as few bytes as a frame with CRC has, below 12 of them 6, with right check bytes of either sort.
+fn short_with_crc(random: &mut Xorshift) -> Vec<u8> {
+    let mut body = content_of(random, Wire::Pcs, 0);
+    body[2] |= 8;
+    let kept = 3 + random.below(9);
+    body.resize(kept, 5);
+    let crc = random.once_in(2);
+    between_marks(&body, &pcs::checks(&body, crc))
 }
 
 /// One to nine bytes, often one, often the FF of an idle line.
@@ -387,8 +476,9 @@ fn endless(random: &mut Xorshift, wire: Wire) -> Vec<u8> {
         Wire::Dle => vec![0x10, 0x02],
         Wire::Expansion => vec![0xFD],
     };
-    let length = random.pick(&[255usize, 258, 259, 260, 1031, 1032, 1033, 1034, 1179, 1180, 1181, 1182, 1300]);
-    let filler = between(random, 4, 9);
+    let length = random.pick(&[255usize, 258, 259, 260, 1031, 1032, 1033, 1034, 1180, 1181, 1182, 1183, 1184, 1300]);
+    // On PCS it is the info too.
+    let filler = if random.once_in(3) { between(random, 12, 15) } else { between(random, 4, 9) };
     let hidden = random.once_in(3);
     for _ in 0..length {
         match wire {
@@ -425,6 +515,14 @@ fn in_noise(random: &mut Xorshift, wire: Wire) -> Vec<u8> {
 
 /// One run of bytes for a link: valid, damaged, resummed, cut, noisy, long, loose.
 pub fn run(random: &mut Xorshift, wire: Wire) -> Vec<u8> {
+    if wire == Wire::Pcs && random.once_in(4) {
+        return match random.below(5) {
+            0 | 1 => checks_mistaken(random),
+            2 => sort_changed(random),
+            3 => short_with_crc(random),
+            _ => near_size(random, wire),
+        };
+    }
     match random.below(21) {
         0..=4 => valid(random, wire),
         5 | 6 => header_changed(random, wire),

@@ -69,6 +69,25 @@ fn run_generated(folder: &str, seed: u64, count: usize) -> ExitCode {
     }
 }
 
+/// Files of captures; fails if a sort of PCS frames is not among their messages.
+fn run_captures(folder: &str, seed: u64, count: usize) -> ExitCode {
+    match captures::captures(Path::new(folder), seed, count) {
+        Err(error) => {
+            eprintln!("{error}");
+            ExitCode::FAILURE
+        }
+        Ok([plain, crc]) => {
+            println!("seed {seed}, {count} captures, PCS messages: {plain} plain, {crc} with CRC");
+            if plain > 0 && crc > 0 {
+                ExitCode::SUCCESS
+            } else {
+                println!("a sort of PCS frames was never seen");
+                ExitCode::FAILURE
+            }
+        }
+    }
+}
+
 fn finish(result: Result<compare::Counts, String>) -> ExitCode {
     match result {
         Err(difference) => {
@@ -140,13 +159,7 @@ fn main() -> ExitCode {
             }
         },
         ["captures", folder, seed, count] => match (seed.parse(), count.parse()) {
-            (Ok(seed), Ok(count)) => match captures::captures(Path::new(folder), seed, count) {
-                Ok(()) => ExitCode::SUCCESS,
-                Err(error) => {
-                    eprintln!("{error}");
-                    ExitCode::FAILURE
-                }
-            },
+            (Ok(seed), Ok(count)) => run_captures(folder, seed, count),
             _ => {
                 eprintln!("{USAGE}");
                 ExitCode::from(2)

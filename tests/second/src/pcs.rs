@@ -1,8 +1,9 @@
 //! PCS link (source document 000).
 //!
 //! 253; receiver; sender; info; number; length high; length low; sender's port;
-//! receiver's port; data (packed); sum; 254.
+//! receiver's port; data (packed); sum; with CRC (02, request 2) three bytes of it; 254.
 
+use crate::crc;
 use crate::packing;
 use crate::stream::{self, Event, Link, State};
 use crate::sum;
@@ -15,6 +16,11 @@ const OPEN: u64 = 1;
 const START: u8 = 253;
 const END: u8 = 254;
 
+/// Bytes in front of the data.
+const HEADER: usize = 8;
+/// Gathered bytes of the longest frame without CRC.
+const PLAIN_MOST: usize = 1180;
+
 #[derive(Clone, Copy, Debug, PartialEq, Eq)]
 pub struct Message {
     pub receiver: u8,
@@ -24,6 +30,8 @@ pub struct Message {
     pub number: u8,
     pub sender_port: u8,
     pub receiver_port: u8,
+    /// Whether a CRC stands behind the sum.
+    pub crc: bool,
     /// Data bytes, unpacked.
     pub length: usize,
 }
@@ -37,7 +45,7 @@ fn field_ok(field: u8) -> bool {
     (1..=250).contains(&field)
 }
 
-/// Whether a message may be sent (else 3).
+/// Whether a message may be sent (else 3), with CRC or without.
 pub fn ok(receiver: u8, sender: u8, kind: u8, number: u8, sender_port: u8, receiver_port: u8, data: &[u8]) -> bool {
     receiver_ok(receiver)
         && field_ok(sender)
@@ -49,62 +57,88 @@ pub fn ok(receiver: u8, sender: u8, kind: u8, number: u8, sender_port: u8, recei
         && (kind < 2 || data.is_empty())
 }
 
+/// Whether the info among these bytes from the receiver's address on, if they reach so far, is one with CRC.
+pub fn asks_crc(bytes: &[u8]) -> bool {
+    matches!(bytes.get(2), Some(12..=15))
+}
+
+/// The CRC over a body as sent: its lowest seven bits, the next seven, the top two.
+pub fn crc_bytes(body: &[u8]) -> [u8; 3] {
+    let value = crc::crc16(0, body);
+    [value & 127, value >> 7 & 127, value >> 14].map(|part| packing::seven_out(part as u8))
+}
+
+/// What stands between a body and the end mark: the sum, with CRC also its bytes.
+pub fn checks(body: &[u8], crc: bool) -> Vec<u8> {
+    let mut checks = vec![sum::pcs(body)];
+    if crc {
+        checks.extend(crc_bytes(body));
+    }
+    checks
+}
+
 /// The frame of a message, or 3.
 #[allow(clippy::too_many_arguments)]
-pub fn frame(receiver: u8, sender: u8, kind: u8, number: u8, sender_port: u8, receiver_port: u8, data: &[u8]) -> Result<Vec<u8>, u8> {
+pub fn frame(receiver: u8, sender: u8, kind: u8, number: u8, sender_port: u8, receiver_port: u8, crc: bool, data: &[u8]) -> Result<Vec<u8>, u8> {
     if !ok(receiver, sender, kind, number, sender_port, receiver_port, data) {
         return Err(3);
     }
     let packed = packing::pack(data);
     let high = packing::seven_out((packed.len() / 128) as u8);
     let low = packing::seven_out((packed.len() % 128) as u8);
-    let mut sent = vec![receiver, sender, 4 + kind, number, high, low, sender_port, receiver_port];
+    let info = if crc { 12 + kind } else { 4 + kind };
+    let mut sent = vec![receiver, sender, info, number, high, low, sender_port, receiver_port];
     sent.extend(&packed);
-    let check = sum::pcs(&sent);
     let mut frame = vec![START];
     frame.extend(&sent);
-    frame.push(check);
+    frame.extend(checks(&sent, crc));
     frame.push(END);
     Ok(frame)
 }
 
 /// Writer: 3, then 2, then the frame at the start of `out`.
 #[allow(clippy::too_many_arguments)]
-pub fn write(receiver: u8, sender: u8, kind: u8, number: u8, sender_port: u8, receiver_port: u8, data: &[u8], out: &mut [u8]) -> Result<usize, u8> {
-    let frame = frame(receiver, sender, kind, number, sender_port, receiver_port, data)?;
+pub fn write(
+    receiver: u8, sender: u8, kind: u8, number: u8, sender_port: u8, receiver_port: u8, crc: bool, data: &[u8], out: &mut [u8],
+) -> Result<usize, u8> {
+    let frame = frame(receiver, sender, kind, number, sender_port, receiver_port, crc, data)?;
     stream::put(&frame, out)
 }
 
-/// The tests at 254, in 01's order: 6, 11, 8, 9, 10, 13. `gathered` are the
+/// The tests at 254, in the order of 02's request 2: 6, 5, 8, 9, 10, 13. `gathered` are the
 /// bytes between 253 and 254. An accepted message comes with its unpacked data.
 fn judge(gathered: &[u8]) -> Result<(Message, Vec<u8>), u8> {
-    if gathered.len() < 9 {
+    let crc = asks_crc(gathered);
+    let behind = if crc { 4 } else { 1 };
+    if gathered.len() < HEADER + behind {
         return Err(6);
     }
-    let last = gathered.len() - 1;
-    let (receiver, sender, info, number) = (gathered[0], gathered[1], gathered[2], gathered[3]);
-    let (sender_port, receiver_port) = (gathered[6], gathered[7]);
-    let packed = &gathered[8..last];
-    if (12..=15).contains(&info) {
-        return Err(11);
+    // The store has room for CRC bytes that a plain frame has not.
+    if !crc && gathered.len() > PLAIN_MOST {
+        return Err(5);
     }
-    if sum::pcs(&gathered[..last]) != gathered[last] {
+    let (body, check) = gathered.split_at(gathered.len() - behind);
+    // As sent: a 0 is not the 128 that stands for it.
+    if checks(body, crc) != check {
         return Err(8);
     }
+    let (header, packed) = body.split_at(HEADER);
+    let (receiver, sender, info, number) = (header[0], header[1], header[2], header[3]);
+    let (sender_port, receiver_port) = (header[6], header[7]);
     let fields = receiver_ok(receiver)
         && field_ok(sender)
         && field_ok(number)
         && field_ok(sender_port)
         && field_ok(receiver_port)
-        && (4..=7).contains(&info);
+        && (crc || (4..=7).contains(&info));
     if !fields {
         return Err(9);
     }
-    let stated = match (packing::seven_in(gathered[4]), packing::seven_in(gathered[5])) {
+    let stated = match (packing::seven_in(header[4]), packing::seven_in(header[5])) {
         (Some(high), Some(low)) => high as usize * 128 + low as usize,
         _ => return Err(9),
     };
-    let kind = info - 4;
+    let kind = if crc { info - 12 } else { info - 4 };
     if kind >= 2 && stated > 0 {
         return Err(9);
     }
@@ -112,13 +146,13 @@ fn judge(gathered: &[u8]) -> Result<(Message, Vec<u8>), u8> {
         return Err(10);
     }
     let data = packing::unpack(packed).ok_or(13u8)?;
-    let message = Message { receiver, sender, kind, number, sender_port, receiver_port, length: data.len() };
+    let message = Message { receiver, sender, kind, number, sender_port, receiver_port, crc, length: data.len() };
     Ok((message, data))
 }
 
 impl Link for Pcs {
     type Message = Message;
-    const SIZE: usize = 1180;
+    const SIZE: usize = 1183;
     const PLACE: usize = 0;
 
     fn odd(state: State) -> bool {
@@ -172,12 +206,14 @@ impl Link for Pcs {
     }
 
     fn fields(message: &Message) -> Vec<u8> {
-        vec![message.receiver, message.sender, message.kind, message.number, message.sender_port, message.receiver_port]
+        let m = message;
+        vec![m.receiver, m.sender, m.kind, m.number, m.sender_port, m.receiver_port, m.crc as u8]
     }
 
     fn answer(message: &Message) -> u64 {
         (message.length as u64) << 8
             | (message.kind as u64) << 20
+            | (message.crc as u64) << 22
             | (message.receiver as u64) << 24
             | (message.sender as u64) << 32
             | (message.number as u64) << 40

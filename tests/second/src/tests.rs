@@ -1,6 +1,7 @@
-//! Tests over whole links: 01's examples and edges, the documents' frames, odd
-//! states, the cutting rule, whole frames, records, gate exchange, listing.
+//! Tests over whole links: 01's examples and edges, the documents' frames, PCS with
+//! CRC, odd states, the cutting rule, whole frames, records, gate exchange, listing.
 
+mod boards;
 mod frames;
 mod gate;
 mod listing;
@@ -34,4 +35,7 @@ const RECORD: [u8; 35] = [
 ];
 const DISPLAY: [u8; 23] =
     [253, 101, 250, 5, 2, 128, 12, 1, 1, 67, 76, 67, 83, 72, 49, 50, 128, 51, 52, 53, 128, 96, 254];
+/// The same with CRC, as request 2 of 02 has it.
+const DISPLAY_WITH_CRC: [u8; 26] =
+    [253, 101, 250, 13, 2, 128, 12, 1, 1, 67, 76, 67, 83, 72, 49, 50, 128, 51, 52, 53, 128, 104, 124, 117, 1, 254];
 const ACKNOWLEDGEMENT: [u8; 11] = [253, 250, 101, 6, 2, 128, 128, 1, 1, 105, 254];

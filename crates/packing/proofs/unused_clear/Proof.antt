@@ -1,34 +1,29 @@
-use Prim.Native.Nat.{ℕ, _*_, _/_, _%_, _^_, _<_}
+use Prim.Native.Nat.{ℕ, _-_, _%_, _^_, _≤_}
+use mathlib.Core.Path.{_≡_, sym, ap, _∙_}
 use native.Mathlib.Omega.{arith}
-use native.Mathlib.Nat.{mod-eq-of-lt, mod-le, div-mul-le-self, mul-le-mul-right, le-trans, lt-of-le-of-lt}
+use lib.Dec.{eqb}
 use lib.Pow.{pow-pos}
 use borrow.Author.Needs.{needs}
-use Rattle.packing.specs.Packed.{lastPlace}
-use Rattle.packing.specs.Unpacked.{unusedClear}
-use Rattle.packing.proofs.Tops.{place-room, one-shl}
+use Rattle.packing.proofs.Tops.{place-last, one-shl}
+use Rattle.packing.proofs.Refused.{low-clear}
 use Rattle.packing.proofs.unused_clear.Statement.{statement}
 use Rattle.packing.proofs.unused_clear.Tie as tie
 
-shr-result : tie.Need-shr-result
-shr-result c = omega (arith, place-room (c .before .args .k) (c .before .pre .0))
+shl-lowest : tie.Need-shl-lowest
+shl-lowest c = omega (arith, c .last-place .ensures, place-last (c .before .args .k) (c .before .pre .0))
 
 rem-result : tie.Need-rem-result
-rem-result c = rw (one-shl (c .before .pre .0)) (pow-pos (c .before .args .k))
+rem-result c =
+    let place : c .last-place .result ≤ 7 = omega (arith, c .last-place .ensures, place-last (c .before .args .k) (c .before .pre .0)) in
+    rw (one-shl place) (pow-pos (c .last-place .result))
 
-shl-result : tie.Need-shl-result
-shl-result c = omega (arith, place-room (c .before .args .k) (c .before .pre .0))
-
--- the places above the last byte's, shifted back, make no more than v
-small : (v place k : ℕ) → v < 256 → v / 2 ^ place % 2 ^ k * 2 ^ place < 256
-small v place k h =
-    lt-of-le-of-lt (le-trans (mul-le-mul-right (2 ^ place) (mod-le (v / 2 ^ place) (2 ^ k))) (div-mul-le-self v (2 ^ place))) h
-
+-- the unused places are those below the last byte's
 returns : tie.Need-returns
-unfolding unusedClear
 returns c =
     let s = c .before in
-    rw (c .last-place .ensures, one-shl (s .pre .0), mod-eq-of-lt (small (s .args .v) (lastPlace (s .args .k)) (s .args .k) (omega arith)))
+    let p : c .last-place .result ≡ 7 - s .args .k = c .last-place .ensures ∙ place-last (s .args .k) (s .pre .0) in
+    let place : c .last-place .result ≤ 7 = omega arith in
+    rw (one-shl place) (ap (λ (n : ℕ). eqb (s .args .v % 2 ^ n) 0) p ∙ sym (low-clear (s .args .k) (s .args .v) (s .pre .0) (s .pre .1)))
 
 pub unused-clear-spec : {M : Type 1} → statement M
-unused-clear-spec =
-    tie.close (tie.spec (λ c κs. search needs) (λ c. search needs) (λ c. search needs) shr-result rem-result shl-result returns)
+unused-clear-spec = tie.close (tie.spec (λ c κs. search needs) shl-lowest rem-result returns)

@@ -11,7 +11,7 @@ scan-requires c κs =
     let f = c .before .before in
     let a = f .before .before .before .before .args in
     let t = call-taken link (a .state, a .store .now) (a .piece .now) _ _ (f .before .is-known .ensures) (f .call-fault .ensures) (c .before .if1 .taken) in
-    (known-count 2 1 1180 (a .state) (t .0), t .1)
+    (known-count 2 1 1183 (a .state) (t .0), t .1)
 
 returns : tie.Need-returns
 returns c =

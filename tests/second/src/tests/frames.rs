@@ -9,17 +9,18 @@ use crate::stream::{self, Event, Received, State};
 
 #[test]
 fn document_000_written() {
-    assert_eq!(pcs::frame(2, 250, 0, 4, 1, 1, b"CELDL\0\0\0\x01").unwrap(), CELDL);
+    assert_eq!(pcs::frame(2, 250, 0, 4, 1, 1, false, b"CELDL\0\0\0\x01").unwrap(), CELDL);
     let data = b"AELDL\0\0\0\x01\x60\x10\x67\x80\x0F\xAA\xD7\x51\xD1\x80\0\0";
-    assert_eq!(pcs::frame(250, 2, 0, 4, 1, 1, data).unwrap(), RECORD);
-    assert_eq!(pcs::frame(101, 250, 1, 2, 1, 1, b"CLCSH12345").unwrap(), DISPLAY);
-    assert_eq!(pcs::frame(250, 101, 2, 2, 1, 1, b"").unwrap(), ACKNOWLEDGEMENT);
+    assert_eq!(pcs::frame(250, 2, 0, 4, 1, 1, false, data).unwrap(), RECORD);
+    assert_eq!(pcs::frame(101, 250, 1, 2, 1, 1, false, b"CLCSH12345").unwrap(), DISPLAY);
+    assert_eq!(pcs::frame(250, 101, 2, 2, 1, 1, false, b"").unwrap(), ACKNOWLEDGEMENT);
 }
 
 #[test]
 fn document_000_read_with_the_store_afterwards() {
     let (received, store) = fresh::<Pcs>(&CELDL);
-    let message = pcs::Message { receiver: 2, sender: 250, kind: 0, number: 4, sender_port: 1, receiver_port: 1, length: 9 };
+    let message =
+        pcs::Message { receiver: 2, sender: 250, kind: 0, number: 4, sender_port: 1, receiver_port: 1, crc: false, length: 9 };
     assert_eq!(received, Received { used: 22, state: State::default(), event: Event::Message(message) });
     assert_eq!(stream::data::<Pcs>(&store, &message), b"CELDL\0\0\0\x01");
     // Places 0 to 8 the data, 9 to 19 still as gathered, the rest untouched.
@@ -52,8 +53,8 @@ fn example_9() {
 
 #[test]
 fn length_edges() {
-    assert_eq!(pcs::frame(1, 1, 0, 1, 1, 1, &[0xFF; 1024]).unwrap().len(), 1182);
-    assert_eq!(pcs::frame(1, 1, 0, 1, 1, 1, &[0xFF; 1025]), Err(3));
+    assert_eq!(pcs::frame(1, 1, 0, 1, 1, 1, false, &[0xFF; 1024]).unwrap().len(), 1182);
+    assert_eq!(pcs::frame(1, 1, 0, 1, 1, 1, false, &[0xFF; 1025]), Err(3));
     assert_eq!(expansion::frame(0xFE, 0, 3, 0xFF, &[0xFF; 1024]).map(|f| f.len() <= 2066), Ok(true));
     assert_eq!(expansion::frame(0, 0, 0, 0, &[0; 1025]), Err(3));
     assert_eq!(mdu::frame(1, &[0; 1025]).unwrap().len(), 1033);
@@ -76,17 +77,17 @@ fn length_edges() {
 #[test]
 fn writers_test_3_then_2_and_leave_memory() {
     let mut out = [FILL; 40];
-    assert_eq!(pcs::write(0, 1, 0, 1, 1, 1, b"", &mut out[..0]), Err(3));
-    assert_eq!(pcs::write(251, 1, 0, 1, 1, 1, b"", &mut out), Err(3));
-    assert_eq!(pcs::write(254, 1, 0, 1, 1, 1, b"", &mut out), Err(3));
-    assert_eq!(pcs::write(1, 255, 0, 1, 1, 1, b"", &mut out), Err(3));
-    assert_eq!(pcs::write(1, 1, 4, 1, 1, 1, b"", &mut out), Err(3));
-    assert_eq!(pcs::write(1, 1, 2, 1, 1, 1, b"a", &mut out), Err(3));
-    assert_eq!(pcs::write(1, 1, 3, 1, 1, 1, b"a", &mut out), Err(3));
-    assert_eq!(pcs::write(1, 1, 0, 251, 1, 1, b"", &mut out), Err(3));
-    assert_eq!(pcs::write(1, 1, 0, 1, 0, 1, b"", &mut out), Err(3));
-    assert_eq!(pcs::write(1, 1, 0, 1, 1, 251, b"", &mut out), Err(3));
-    assert_eq!(pcs::write(1, 1, 0, 1, 1, 1, b"", &mut out[..10]), Err(2));
+    assert_eq!(pcs::write(0, 1, 0, 1, 1, 1, false, b"", &mut out[..0]), Err(3));
+    assert_eq!(pcs::write(251, 1, 0, 1, 1, 1, false, b"", &mut out), Err(3));
+    assert_eq!(pcs::write(254, 1, 0, 1, 1, 1, false, b"", &mut out), Err(3));
+    assert_eq!(pcs::write(1, 255, 0, 1, 1, 1, false, b"", &mut out), Err(3));
+    assert_eq!(pcs::write(1, 1, 4, 1, 1, 1, false, b"", &mut out), Err(3));
+    assert_eq!(pcs::write(1, 1, 2, 1, 1, 1, false, b"a", &mut out), Err(3));
+    assert_eq!(pcs::write(1, 1, 3, 1, 1, 1, false, b"a", &mut out), Err(3));
+    assert_eq!(pcs::write(1, 1, 0, 251, 1, 1, false, b"", &mut out), Err(3));
+    assert_eq!(pcs::write(1, 1, 0, 1, 0, 1, false, b"", &mut out), Err(3));
+    assert_eq!(pcs::write(1, 1, 0, 1, 1, 251, false, b"", &mut out), Err(3));
+    assert_eq!(pcs::write(1, 1, 0, 1, 1, 1, false, b"", &mut out[..10]), Err(2));
     assert_eq!(mdu::write(0, b"a", &mut out), Err(3));
     assert_eq!(mdu::write(1, b"a", &mut out[..8]), Err(2));
     assert_eq!(dle::write(1, 2, b"", &mut out[..0]), Err(3));
@@ -95,7 +96,7 @@ fn writers_test_3_then_2_and_leave_memory() {
     assert_eq!(expansion::write(0, 0, 4, 0, b"", &mut out), Err(3));
     assert_eq!(expansion::write(0, 1, 0, 0, b"a", &mut out), Err(3));
     assert!(out.iter().all(|byte| *byte == FILL));
-    assert_eq!(pcs::write(255, 1, 0, 1, 1, 1, b"", &mut out), Ok(11));
+    assert_eq!(pcs::write(255, 1, 0, 1, 1, 1, false, b"", &mut out), Ok(11));
     assert!(out[11..].iter().all(|byte| *byte == FILL));
     assert_eq!(dle::write_error(0x10, 2, 3, &mut out[..9]), Ok(9));
     assert_eq!(&out[..9], &[0x10, 2, 0x10, 0x10, 2, 0, 3, 0x10, 3]);

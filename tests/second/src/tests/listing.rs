@@ -11,6 +11,12 @@ fn listing_example() {
     assert_eq!(listing(&captures::example()), expected);
 }
 
+/// The lines don't tell a frame with CRC from one without.
+#[test]
+fn listing_of_both_sorts() {
+    assert_eq!(listing(&captures::boards()), "link P\nmessage 101 0\nmessage 101 0\nrefused 8\nnoise 0\nopen 0\n");
+}
+
 #[test]
 fn listing_of_others() {
     assert_eq!(listing(b""), "refused 9\n");

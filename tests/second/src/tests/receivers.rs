@@ -8,7 +8,7 @@ use crate::mdu::{self, Mdu};
 use crate::pcs::{self, Pcs};
 use crate::stream::{Event, Link, State};
 
-/// A PCS frame from its gathered bytes, the sum put right.
+/// A PCS frame from its gathered bytes, the sum put right, and the CRC where the info asks for it.
 fn judged(content: &[u8]) -> Event<pcs::Message> {
     event::<Pcs>(&gen::close(Wire::Pcs, content))
 }
@@ -17,12 +17,13 @@ fn judged(content: &[u8]) -> Event<pcs::Message> {
 fn pcs_info() {
     for info in 0..=252u8 {
         let expected = match info {
-            4..=7 => None,
-            12..=15 => Some(11),
+            4..=7 | 12..=15 => None,
             _ => Some(9),
         };
         match (judged(&[1, 1, info, 1, 128, 128, 1, 1]), expected) {
-            (Event::Message(message), None) => assert_eq!(message.kind, info - 4),
+            (Event::Message(message), None) => {
+                assert_eq!((message.kind, message.crc), if info < 8 { (info - 4, false) } else { (info - 12, true) })
+            }
             (Event::Refused(number), Some(wanted)) => assert_eq!(number, wanted),
             (other, _) => panic!("info {info}: {other:?}"),
         }
@@ -33,8 +34,9 @@ fn pcs_info() {
 #[test]
 fn pcs_fields() {
     for place in [0, 1, 3, 6, 7] {
-        for value in (0..=255u8).filter(|value| *value != 253 && *value != 254) {
-            let mut content = [1, 1, 4, 1, 128, 128, 1, 1];
+        let values = (0..=255u8).filter(|value| *value != 253 && *value != 254);
+        for (value, info) in values.flat_map(|value| [(value, 4), (value, 12)]) {
+            let mut content = [1, 1, info, 1, 128, 128, 1, 1];
             content[place] = value;
             let fine = (1..=250).contains(&value) || (place == 0 && value == 255);
             match judged(&content) {
@@ -49,14 +51,14 @@ fn pcs_fields() {
     }
     for length in [[0, 128], [129, 128], [128, 0], [128, 129], [255, 1]] {
         assert_eq!(judged(&[1, 1, 4, 1, length[0], length[1], 1, 1]), Event::Refused(9));
+        assert_eq!(judged(&[1, 1, 12, 1, length[0], length[1], 1, 1]), Event::Refused(9));
     }
 }
 
 #[test]
 fn pcs_end_tests_in_order() {
-    // 6 before 11, 11 before 8, 8 before 9.
-    assert_eq!(event::<Pcs>(&[253, 1, 1, 12, 1, 128, 128, 1, 25, 254]), Event::Refused(6));
-    assert_eq!(event::<Pcs>(&[253, 1, 1, 12, 1, 128, 128, 1, 1, 0, 254]), Event::Refused(11));
+    // 6 before 8, 8 before 9.
+    assert_eq!(event::<Pcs>(&[253, 1, 1, 4, 1, 128, 128, 1, 25, 254]), Event::Refused(6));
     assert_eq!(event::<Pcs>(&[253, 0, 1, 4, 1, 128, 128, 1, 1, 0, 254]), Event::Refused(8));
     assert_eq!(judged(&[1, 1, 6, 1, 128, 2, 1, 1]), Event::Refused(9)); // stated, though none present
     assert_eq!(judged(&[1, 1, 6, 1, 128, 128, 1, 1, 5, 128]), Event::Refused(10));
@@ -73,7 +75,7 @@ fn pcs_marks_and_size() {
     assert_eq!(received.event, Event::Refused(4));
     assert_eq!((received.used, received.state), (6, State { mode: 1, count: 0, length: 0, open: 1, noise: 2 }));
     let mut long = vec![253];
-    long.extend([1u8; 1180]);
+    long.extend([1u8; 1183]);
     assert_eq!(event::<Pcs>(&long), Event::Nothing);
     long.push(1);
     let (received, store) = fresh::<Pcs>(&long);

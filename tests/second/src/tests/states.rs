@@ -55,7 +55,8 @@ fn odd_states_and_short_stores() {
     assert!(!Mdu::odd(open(8, 1)));
     assert!(!Mdu::odd(open(1032, 1025)));
     assert!(!Mdu::odd(open(5, 7777)));
-    assert!(!Pcs::odd(open(1180, 0)));
+    assert!(!Pcs::odd(open(1183, 0)));
+    odd_state::<Pcs>(open(1184, 0));
     assert!(!Pcs::odd(open(0, 0)));
 }
 

@@ -93,7 +93,7 @@ fn every_byte_is_counted_once() {
 
 #[test]
 fn noise_goes_round() {
-    let mut store = vec![0; 1180];
+    let mut store = vec![0; 1183];
     let state = State { noise: u32::MAX, ..State::default() };
     assert_eq!(stream::receive::<Pcs>(&[1], state, &mut store).state.noise, 0);
     assert_eq!(stream::receive::<Mdu>(&[1, 1], state, &mut store).state.noise, 1);

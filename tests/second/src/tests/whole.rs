@@ -1,6 +1,6 @@
 //! What writers make, receivers and the whole-frame call read back.
 
-use super::{fresh, ACKNOWLEDGEMENT, CELDL, FILL};
+use super::{fresh, ACKNOWLEDGEMENT, CELDL, DISPLAY_WITH_CRC, FILL};
 use crate::dle::{self, Dle};
 use crate::expansion::{self, Expansion};
 use crate::gen::{self, Xorshift};
@@ -37,8 +37,9 @@ fn writers_against_readers() {
         let data = gen::contents(&mut random, length);
         let field = |random: &mut Xorshift| gen::between(random, 1, 250);
         let f = [field(&mut random), field(&mut random), random.below(4) as u8, field(&mut random), field(&mut random), field(&mut random)];
-        match pcs::frame(f[0], f[1], f[2], f[3], f[4], f[5], &data) {
-            Ok(frame) => read_back::<Pcs>(&frame, frame.len() - 2, &f, &data),
+        let crc = random.once_in(2);
+        match pcs::frame(f[0], f[1], f[2], f[3], f[4], f[5], crc, &data) {
+            Ok(frame) => read_back::<Pcs>(&frame, frame.len() - 2, &[&f[..], &[crc as u8]].concat(), &data),
             Err(number) => assert!(number == 3 && (length > 1024 || (f[2] >= 2 && length > 0))),
         }
         match mdu::frame(f[0], &data) {
@@ -61,11 +62,14 @@ fn writers_against_readers() {
 
 #[test]
 fn whole_frame_answers() {
-    let mut store = vec![0; 1180];
+    let mut store = vec![0; 1183];
     let bits = 9u64 << 8 | 2 << 24 | 250 << 32 | 4 << 40 | 1 << 48 | 1 << 56;
     assert_eq!(whole::read::<Pcs>(&CELDL, &mut store), bits);
     let bits = 2u64 << 20 | 250 << 24 | 101 << 32 | 2 << 40 | 1 << 48 | 1 << 56;
     assert_eq!(whole::read::<Pcs>(&ACKNOWLEDGEMENT, &mut store), bits);
+    let bits = 10u64 << 8 | 1 << 20 | 1 << 22 | 101 << 24 | 250 << 32 | 2 << 40 | 1 << 48 | 1 << 56;
+    assert_eq!(whole::read::<Pcs>(&DISPLAY_WITH_CRC, &mut store), bits);
+    assert_eq!(whole::read::<Pcs>(&ACKNOWLEDGEMENT, &mut store[1..]), 1);
     let frame = dle::error_frame(5, 6, 7);
     assert_eq!(whole::read::<Dle>(&frame, &mut store), 1 << 20 | 5 << 24 | 6 << 32 | 7 << 40);
     let frame = expansion::frame(1, 2, 3, 4, b"").unwrap();

@@ -24,7 +24,7 @@ use std::path::Path;
 pub use tally::Tally;
 
 /// What a program reads of its standard input at most.
-const INPUT: usize = 65_536;
+pub const INPUT: usize = 65_536;
 
 /// The files of one part's section.
 struct Files<'a> {

@@ -120,6 +120,14 @@ impl<'a> Section<'a> {
         }
     }
 
+    /// Each piece on one receiver, which the one before it left hunting.
+    pub fn in_turn<L: Link>(&mut self, pieces: &[Vec<u8>]) {
+        self.fresh(L::SIZE);
+        for piece in pieces {
+            self.receive::<L>(piece);
+        }
+    }
+
     /// A stream cut after each byte.
     pub fn cut<L: Link>(&mut self, stream: &[u8]) {
         self.fresh(L::SIZE);

@@ -1,16 +1,16 @@
-//! PCS: document 000's messages, group lengths, the edges, the end's tests.
+//! PCS: document 000's messages, group lengths, the edges, the end's tests. Those of frames with CRC are in `boards`.
 
+use super::boards;
 use super::link::Section;
 use super::text::{given, given_run, given_same, Lines};
 use crate::pcs::{self, Pcs};
 use crate::stream::{Link, State};
-use crate::sum;
 
 /// The record that document 000's time clock sends.
 const RECORD_DATA: &[u8] = b"AELDL\0\0\0\x01\x60\x10\x67\x80\x0F\xAA\xD7\x51\xD1\x80\0\0";
 
-/// Document 000's four messages: numbers and data.
-const MESSAGES: [([u8; 6], &[u8]); 4] = [
+/// Document 000's four messages: numbers without the CRC's, and data.
+pub const MESSAGES: [([u8; 6], &[u8]); 4] = [
     ([2, 250, 0, 4, 1, 1], b"CELDL\0\0\0\x01"),
     ([250, 2, 0, 4, 1, 1], RECORD_DATA),
     ([101, 250, 1, 2, 1, 1], b"CLCSH12345"),
@@ -18,7 +18,7 @@ const MESSAGES: [([u8; 6], &[u8]); 4] = [
 ];
 
 /// One field out of its range each.
-const UNSENDABLE: [[u8; 6]; 13] = [
+pub const UNSENDABLE: [[u8; 6]; 13] = [
     [0, 1, 0, 1, 1, 1],
     [251, 1, 0, 1, 1, 1],
     [254, 1, 0, 1, 1, 1],
@@ -34,7 +34,7 @@ const UNSENDABLE: [[u8; 6]; 13] = [
     [1, 1, 0, 1, 1, 251],
 ];
 
-/// Whole frames for 6, 11 and 8.
+/// Whole frames for 6, those with CRC where a plain one would be long enough, and 8.
 const FRAMES: [&[u8]; 5] = [
     &[253, 254],
     &[253, 1, 1, 12, 1, 128, 128, 1, 25, 254],
@@ -85,25 +85,31 @@ const BODIES: [&[u8]; 36] = [
     &[1, 1, 4, 1, 128, 7, 1, 1, 1, 2, 3, 4, 5, 6, 62],
 ];
 
-fn frame(n: [u8; 6], data: &[u8]) -> Vec<u8> {
-    pcs::frame(n[0], n[1], n[2], n[3], n[4], n[5], data).unwrap_or_default()
+pub fn frame(n: [u8; 6], crc: bool, data: &[u8]) -> Vec<u8> {
+    pcs::frame(n[0], n[1], n[2], n[3], n[4], n[5], crc, data).unwrap_or_default()
+}
+
+/// The numbers of a line: whether with CRC stands behind the others.
+pub fn seven(n: [u8; 6], crc: bool) -> [u8; 7] {
+    [n[0], n[1], n[2], n[3], n[4], n[5], crc as u8]
 }
 
 /// What the sum of one of document 000's messages is taken over.
 pub fn summed(message: usize) -> Vec<u8> {
     let (numbers, data) = MESSAGES[message];
-    let frame = frame(numbers, data);
+    let frame = frame(numbers, false, data);
     frame[1..frame.len() - 2].to_vec()
 }
 
-/// These bytes between the marks, with the right sum behind them.
-fn closed(bytes: &[u8]) -> Vec<u8> {
-    [&[253], bytes, &[sum::pcs(bytes), 254]].concat()
+/// These bytes between the marks, with the check bytes behind them that their info asks for.
+pub fn closed(bytes: &[u8]) -> Vec<u8> {
+    [&[253], bytes, &pcs::checks(bytes, pcs::asks_crc(bytes)), &[254]].concat()
 }
 
 fn documents(s: &mut Section) {
     for (numbers, data) in MESSAGES {
-        let exact = frame(numbers, data).len();
+        let exact = frame(numbers, false, data).len();
+        let numbers = seven(numbers, false);
         s.write(&numbers, given(data), exact + 3);
         s.read_back::<Pcs>();
         s.write(&numbers, given(data), exact);
@@ -116,16 +122,16 @@ fn lengths(s: &mut Section) {
     // Every length of a last group, top bits set and not.
     for length in 1..=8usize {
         let data: Vec<u8> = (0..length).map(|k| if k % 2 == 0 { 0x80 + k as u8 } else { k as u8 }).collect();
-        s.write(&[255, 128, 1, 128, 250, 1], given(&data), 40);
+        s.write(&[255, 128, 1, 128, 250, 1, 0], given(&data), 40);
         s.read_back::<Pcs>();
     }
     // 02's fare of two bytes.
-    s.write(&[101, 250, 0, 2, 1, 1], given(&[0x96, 0x64]), 20);
+    s.write(&[101, 250, 0, 2, 1, 1, 0], given(&[0x96, 0x64]), 20);
     s.read_back::<Pcs>();
     s.whole::<Pcs>();
     // The length edge: 1,024 sent, 1,025 refused.
     for length in [1023, 1024, 1025, 1026] {
-        s.write(&[1, 2, 0, 3, 4, 5], given_run(length), 1200);
+        s.write(&[1, 2, 0, 3, 4, 5, 0], given_run(length), 1200);
         if length == 1024 {
             s.read_back::<Pcs>();
         }
@@ -135,12 +141,12 @@ fn lengths(s: &mut Section) {
 /// 3 for each field, before 2; kinds 2 and 3 with data and without.
 fn unsendable(s: &mut Section) {
     for numbers in UNSENDABLE {
-        s.write(&numbers, given(b""), 20);
-        s.write(&numbers, given(b""), 0);
+        s.write(&seven(numbers, false), given(b""), 20);
+        s.write(&seven(numbers, false), given(b""), 0);
     }
-    s.write(&[1, 1, 2, 1, 1, 1], given(&[7]), 20);
-    s.write(&[1, 1, 3, 1, 1, 1], given(&[7]), 20);
-    s.write(&[1, 1, 3, 1, 1, 1], given(b""), 20);
+    s.write(&[1, 1, 2, 1, 1, 1, 0], given(&[7]), 20);
+    s.write(&[1, 1, 3, 1, 1, 1, 0], given(&[7]), 20);
+    s.write(&[1, 1, 3, 1, 1, 1, 0], given(b""), 20);
     s.read_back::<Pcs>();
 }
 
@@ -156,7 +162,7 @@ fn ends(s: &mut Section) {
 fn too_long(s: &mut Section) {
     s.fresh(Pcs::SIZE);
     s.receive::<Pcs>(&[253]);
-    s.receive_given::<Pcs>(given_same(1180));
+    s.receive_given::<Pcs>(given_same(1183));
     s.receive::<Pcs>(&[11, 12]);
     s.receive::<Pcs>(&[12, 253]);
     s.receive::<Pcs>(&[9, 253, 254]);
@@ -165,9 +171,15 @@ fn too_long(s: &mut Section) {
 fn states(s: &mut Section) {
     s.odd::<Pcs>(&[
         State { mode: 2, ..State::default() },
-        State { mode: 1, count: 1181, ..State::default() },
+        State { mode: 1, count: 1184, ..State::default() },
         State { mode: 0, count: 1, ..State::default() },
     ]);
+    // Known counts at the edges; the filled store's info is that of a plain frame.
+    s.fresh(Pcs::SIZE);
+    for (count, byte) in [(1183, 254), (1183, 253), (1183, 5), (1182, 5), (1181, 254), (1180, 254)] {
+        s.set(State { mode: 1, count, open: count as u32 + 1, ..State::default() });
+        s.receive::<Pcs>(&[byte]);
+    }
     s.strange::<Pcs>(&[0], &[1]);
     s.short::<Pcs>();
     s.noise_goes_round::<Pcs>();
@@ -175,21 +187,22 @@ fn states(s: &mut Section) {
 
 fn cut(s: &mut Section) {
     let mut stream = vec![254, 7, 253, 1, 253];
-    stream.extend(&frame([101, 250, 1, 2, 1, 1], b"CLCSH\xB1\xB2345")[1..]);
+    stream.extend(&frame([101, 250, 1, 2, 1, 1], false, b"CLCSH\xB1\xB2345")[1..]);
     stream.extend([0, 253, 254, 253, 9]);
     s.cut::<Pcs>(&stream);
 }
 
 fn parts(s: &mut Section) {
-    for (room, length) in [(1180, 1180), (1180, 1181), (1180, 0), (0, 0), (0, 1)] {
+    for (room, length) in [(1183, 1183), (1183, 1184), (1183, 0), (0, 0), (0, 1)] {
+        let crc = length > 0;
         let message =
-            pcs::Message { receiver: 1, sender: 1, kind: 0, number: 1, sender_port: 1, receiver_port: 1, length };
+            pcs::Message { receiver: 1, sender: 1, kind: 0, number: 1, sender_port: 1, receiver_port: 1, crc, length };
         s.part::<Pcs>(room, length, message);
     }
 }
 
 pub fn section() -> (Lines, Lines) {
-    let writer = |n: &[u8], data: &[u8], out: &mut [u8]| pcs::write(n[0], n[1], n[2], n[3], n[4], n[5], data, out);
+    let writer = |n: &[u8], data: &[u8], out: &mut [u8]| pcs::write(n[0], n[1], n[2], n[3], n[4], n[5], n[6] == 1, data, out);
     let mut s = Section::new("pcs", false, &writer);
     documents(&mut s);
     lengths(&mut s);
@@ -199,5 +212,6 @@ pub fn section() -> (Lines, Lines) {
     states(&mut s);
     cut(&mut s);
     parts(&mut s);
+    boards::lines(&mut s);
     (s.lines, s.whole)
 }

@@ -1,15 +1,47 @@
+use Prim.Native.Nat.{_-_}
+use mathlib.Core.Path.{ap, _∙_}
 use native.Mathlib.Omega.{arith}
-use native.Mathlib.Numerals.{add-one}
-use lib.ListN.{length-set}
+use lib.ListN.{take, drop, length-set}
 use borrow.Author.Needs.{needs}
+use Rattle.pcs.specs.Frame.{trailing}
+use Rattle.pcs.proofs.Written.{end-crc, end-plain}
 use Rattle.pcs.proofs.writer.put_end.Statement.{statement}
 use Rattle.pcs.proofs.writer.put_end.Tie as tie
 
-slice-write-out-2 : tie.Need-slice-write-out-2
-slice-write-out-2 c = simp length-set (omega arith)
+put-crc-requires : tie.Need-put-crc-requires
+put-crc-requires c κs =
+    let i = c .before .before .before .before in
+    simp length-set (omega (arith, i .before .before .before .before .before .pre, ap trailing (i .if1 .taken)))
 
+slice-write-out-3 : tie.Need-slice-write-out-3
+slice-write-out-3 c = simp length-set (omega (arith, c .before .before .before .before .before .pre, ap trailing (c .if1 .left)))
+
+same-length : tie.Need-same-length
+same-length c =
+    let p = c .before .before in
+    let s = p .before .before .before .before .before .before in
+    let a = s .before .before .before .before .args in
+    p .put-crc .kept .0 ∙ length-set (a .out .now) (a .at) (s .sum .result)
+
+-- `sum` and `crc16` promise the values of what stands behind the start mark; they were taken before the first store
 returns : tie.Need-returns
-returns c = rw add-one
+returns c =
+    let p = c .before .before in
+    let v = p .before .before in
+    let i = v .before .before .before in
+    let s = i .before in
+    let a = s .before .before .before .before .args in
+    end-crc (a .out .now) (take (a .at - 1) (drop 1 (a .out .now))) (a .at) (s .sum .result) (a .crc) (s .sum .ensures)
+    (v .crc16 .result) (p .put-crc .last .0) (i .if1 .taken) (v .crc16 .ensures) (p .put-crc .ensures)
+
+returns-2 : tie.Need-returns-2
+returns-2 c =
+    let a = c .before .before .before .before .before .args in
+    end-plain (a .out .now) (take (a .at - 1) (drop 1 (a .out .now))) (a .at) (c .before .sum .result) (a .crc) (c .before .sum .ensures) (c .if1 .left)
 
 pub put-end-spec : {M : Type 1} → statement M
-put-end-spec = tie.close (tie.spec (λ c. search needs) (λ c. search needs) slice-write-out-2 (λ c. search needs) returns)
+put-end-spec =
+    tie.close
+    (tie.spec (λ c. search needs) (λ c. search needs) (λ c. search needs) (λ c κs. search needs) (λ c. search needs) (λ c. search needs)
+    (λ c. search needs) (λ c κs. search needs) (λ c. search needs) (λ c. search needs) put-crc-requires (λ c. search needs) (λ c. search needs)
+    slice-write-out-3 same-length returns (λ c. search needs) returns-2)

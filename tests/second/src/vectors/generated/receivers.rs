@@ -8,7 +8,6 @@ use crate::gen::{self, Wire, Xorshift};
 use crate::mdu;
 use crate::pcs;
 use crate::stream::{self, Link, State};
-use crate::sum;
 use crate::vectors::link::Section;
 
 /// A program takes no more bytes of a word.
@@ -52,7 +51,7 @@ fn any_state<L: Link>(random: &mut Xorshift, wire: Wire) -> State {
         _ => random.below(4) as u64,
     };
     let count = match random.below(4) {
-        0 => random.pick(&[0, 1, 5, 6, 7, 8, 9, size - 1, size]),
+        0 => random.pick(&[0, 1, 5, 6, 7, 8, 9, 11, 12, size - 3, size - 2, size - 1, size]),
         1 => random.pick(&[size + 1, 65_536, 65_537, 4_294_967_296, 4_294_967_297, 9_999_999_999]),
         2 => 0,
         _ => random.below(L::SIZE + 1) as u64,
@@ -73,7 +72,7 @@ fn gathered(random: &mut Xorshift, wire: Wire) -> Vec<u8> {
         gen::damage(random, &mut bytes, 0);
     }
     match wire {
-        Wire::Pcs => bytes.push(sum::pcs(&bytes)),
+        Wire::Pcs => bytes.extend(pcs::checks(&bytes, pcs::asks_crc(&bytes))),
         Wire::Mdu => bytes.extend(crc::crc16(0, bytes.get(6..).unwrap_or(&[])).to_be_bytes()),
         Wire::Dle => {}
         Wire::Expansion => bytes.extend(crc::crc32(&bytes).to_le_bytes()),
@@ -215,8 +214,9 @@ fn part<L: Link>(random: &mut Xorshift, wire: Wire, link: &mut Section) {
     };
     match wire {
         Wire::Pcs => {
+            let crc = random.once_in(2);
             let message =
-                pcs::Message { receiver: 1, sender: 1, kind: 0, number: 1, sender_port: 1, receiver_port: 1, length };
+                pcs::Message { receiver: 1, sender: 1, kind: 0, number: 1, sender_port: 1, receiver_port: 1, crc, length };
             link.part::<pcs::Pcs>(room, length, message);
         }
         Wire::Mdu => link.part::<mdu::Mdu>(room, length, mdu::Message { address: 1, length }),

@@ -5,10 +5,11 @@ use std::collections::BTreeMap;
 
 /// Each call with the answers that it can give: refusals by their number, others by
 /// their word, the value of a check as `value`, and as `empty` where no bytes were
-/// given. All have to be seen, and no other may be.
+/// given. A PCS message is `plain` or `crc`, and its 5 is `5-end` where an end mark
+/// gives it. All have to be seen, and no other may be: PCS's 11 is withdrawn.
 const ANSWERS: [(&str, &str); 25] = [
     ("crc16-from", "value empty"),
-    ("pcs receive", "nothing message 1 4 5 6 8 9 10 11 12 13"),
+    ("pcs receive", "nothing plain crc 1 4 5 5-end 6 8 9 10 12 13"),
     ("mdu receive", "nothing message 1 8 9 10 12"),
     ("dle receive", "nothing message 1 4 5 6 7 10 12"),
     ("expansion receive", "nothing message 1 4 5 6 7 8 9 12"),
@@ -51,9 +52,17 @@ fn call_name(section: &str, words: &[&str]) -> Option<String> {
     }
 }
 
-fn answer_name(call: &[&str], words: &[&str]) -> String {
+/// Whether the last of the bytes that a receiver used is PCS's end mark.
+fn ended(call: &[&str], used: &str) -> bool {
+    let used: usize = used.parse().unwrap_or(0);
+    used > 0 && call[1].get(2 * used - 2..2 * used) == Some("FE")
+}
+
+fn answer_name(section: &str, call: &[&str], words: &[&str]) -> String {
     let name = match words {
         _ if call[0] == "crc16-from" => if call[2] == "-" { "empty" } else { "value" },
+        ["used", used, "refused", "5", ..] if section == "pcs" => if ended(call, used) { "5-end" } else { "5" },
+        ["used", _, "message", _, _, _, _, _, _, crc, ..] if section == "pcs" => if *crc == "1" { "crc" } else { "plain" },
         ["used", _, "refused", number, ..] | ["refused", number, ..] => number,
         ["used", _, event, ..] => event,
         ["reply", "none", ..] => "silent",
@@ -71,7 +80,7 @@ impl Tally {
             let words: Vec<&str> = call.split(' ').collect();
             if let Some(name) = call_name(section, &words) {
                 let answer: Vec<&str> = line[call.len()..].split_whitespace().collect();
-                *self.0.entry((name, answer_name(&words, &answer))).or_default() += 1;
+                *self.0.entry((name, answer_name(section, &words, &answer))).or_default() += 1;
             }
         }
     }
@@ -138,5 +147,22 @@ mod tests {
         assert!(missing.contains(&String::from("dle receive can't answer 9 and did")));
         assert!(missing.contains(&String::from("dle receive never answered 4")));
         assert!(!missing.contains(&String::from("dle receive never answered nothing")));
+    }
+
+    /// The two sorts of PCS messages and the two places of its 5 are told apart, and a withdrawn number is not let through.
+    #[test]
+    fn pcs_answers() {
+        let mut lines = Lines::default();
+        lines.add("receive FEFE", "used 1 message 1 2 0 3 4 5 0 1 FE state 0 0 0 0 store 5");
+        lines.add("receive FEFE", "used 1 message 1 2 0 3 4 5 1 1 FE state 0 0 0 0 store 5");
+        lines.add("receive 05FE", "used 1 refused 5 state 0 0 0 0 store 5");
+        lines.add("receive 05FE", "used 2 refused 5 state 0 0 0 0 store 5");
+        lines.add("receive FE", "used 1 refused 11 state 0 0 0 0 store 5");
+        let mut tally = Tally::default();
+        tally.count("pcs", &lines);
+        for answer in ["plain", "crc", "5", "5-end", "11"] {
+            assert_eq!(tally.seen("pcs receive", answer), 1, "{answer}");
+        }
+        assert!(tally.missing().contains(&String::from("pcs receive can't answer 11 and did")));
     }
 }
