@@ -37,8 +37,8 @@ extern "C" {
  * read as other data. Where the last group is full or has no byte above 127, nothing moved.
  * 3000 brought PCS frames with a CRC. linebox_pcs_write takes crc before the data; 0 gives the frame that it wrote until then.
  * LINEBOX_PCS_STORE and LINEBOX_PCS_LONGEST grew by 3. Frames with a CRC are read, and told by linebox_pcs_crc; the number that
- * they were refused with, LINEBOX_CRC_ASKED, is gone. Of a PCS frame up to 1,183 bytes are gathered, no longer 1,180, so one
- * without a CRC and with 1,181 to 1,183 bytes between its marks is refused at its end. */
+ * they were refused with, LINEBOX_CRC_ASKED, is gone. A frame without a CRC that is too long by one to three bytes is still
+ * LINEBOX_TOO_LONG, but only at its end mark, and all its bytes lie in the store; a start mark in it is LINEBOX_NEW_START. */
 #define LINEBOX_VERSION 3000
 
 /* ---- Refusals: why a call was not done. 0 is no refusal. */
@@ -151,7 +151,7 @@ int32_t linebox_expansion_write(uint8_t id, uint8_t type, uint8_t repeat, uint8_
  * number 1,184 between the marks is LINEBOX_TOO_LONG at once, with a CRC or without. At the end mark:
  *
  *   LINEBOX_TOO_SHORT    with fewer than 9 bytes between the marks, or fewer than 12 in a frame with a CRC; else
- *   LINEBOX_TOO_LONG     with more than 1,180 bytes in a frame without a CRC, even where its sum is right; else
+ *   LINEBOX_TOO_LONG     with more than 1,180 between the marks of a frame without a CRC, even where its sum is right; else
  *   LINEBOX_WRONG_CHECK  where the sum, or one of the three bytes of a CRC, is not as the writer sends it: a 0 is not a 128
  *   then LINEBOX_WRONG_FIELD, LINEBOX_WRONG_LENGTH and LINEBOX_BADLY_PACKED; the stated length never counts the CRC
  *
@@ -227,7 +227,7 @@ static inline uint8_t linebox_expansion_address(uint64_t r) { return linebox_fie
  * However the run is cut, with empty blocks or without, the last value is that of one call on the whole run from the same
  * start. On MDU the start is 0, and the run is the body: the value stands behind it in the frame, high byte first. On PCS the
  * start is 0 too, and the run is what the sum is over: the bytes as sent, from the receiver's address through the packed data.
- * The value stands behind the sum in three bytes, its lowest seven bits, the next seven, the top two, each 0 sent as 128. A
+ * The value stands behind the sum in three bytes: bits 0 to 6, bits 7 to 13, bits 14 and 15, with 128 wherever that gives 0. A
  * writer or a read of a frame works it out by itself and needs no call of this.
  */
 uint16_t linebox_crc16(uint16_t start, const uint8_t *bytes, size_t len);

@@ -74,7 +74,7 @@ def two(y, title, opens, stays_hunting, stays_open, ends):
     return p
 
 
-AT_254 = ["At 254, in this order (info 12 to 15: with CRC):", "6: fewer than 9 bytes; with CRC, fewer than 12", "5: more than 1,180 bytes without CRC",
+AT_254 = ["At 254, in this order (info 12 to 15: with CRC):", "6: fewer than 9 bytes; with CRC, fewer than 12", "5: more than 1,180 gathered, without CRC",
           "8: the sum or the CRC", "9: a field; 10: the length; 13: the packing"]
 
 

@@ -8,7 +8,7 @@ pub const OUTPUT_SHORT: u8 = 2;
 pub const UNSENDABLE: u8 = 3;
 // A start mark inside an open frame.
 pub const NEW_START: u8 = 4;
-// A byte to gather when the link's size is reached, or the end of a PCS frame without CRC of more than 1,180 bytes.
+// A byte to gather when the link's size is reached, or the end of a PCS frame that has no CRC and more than 1,180 gathered bytes.
 pub const TOO_LONG: u8 = 5;
 // The end of a frame below the least size, or a run lent as a whole frame that is none.
 pub const TOO_SHORT: u8 = 6;

@@ -67,4 +67,5 @@ pub record CallsOf (L : Link) (code : L .Numbers → ℕ) (refusals : List ℕ) 
 -- nor does a write of PCS, whatever number comes for the choice of a CRC
 abbrev pub ChosenNever : Type 0
 ChosenNever =
-    (crc : ℕ) (m : Bool → Pcs.link .Message) (out : List ℕ) → chosen crc (λ k. writesTo Pcs.link (m k) out) out .0 ≡ int32Of (refused 11) → ⊥
+    (crc : ℕ) (m : Bool → Pcs.link .Message) (out : List ℕ)
+    → chosen crc (λ k. writesTo Pcs.link (m k) out) out .0 ≡ int32Of (refused 11) → ⊥

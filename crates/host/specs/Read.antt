@@ -36,7 +36,8 @@ mduCode m = packed (m .length) 0 false (m .address ∷ [])
 -- DLE: sequence, node, error byte; kind 1 marks an error message, of data length 0, and with data the error byte is 0
 abbrev pub dleCode : Dle.Message → ℕ
 dleCode m =
-    cond (eqb (m .length) 0) (packed 0 1 false (m .sequence ∷ m .node ∷ m .error ∷ [])) (packed (m .length) 0 false (m .sequence ∷ m .node ∷ 0 ∷ []))
+    cond (eqb (m .length) 0) (packed 0 1 false (m .sequence ∷ m .node ∷ m .error ∷ []))
+    (packed (m .length) 0 false (m .sequence ∷ m .node ∷ 0 ∷ []))
 
 -- expansion: id, type, repeat, address
 abbrev pub expansionCode : Expansion.Message → ℕ

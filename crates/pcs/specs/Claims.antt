@@ -12,7 +12,7 @@ use Rattle.checksum.specs.Claims.{DifferWithin}
 use Rattle.pcs.specs.Frame.{withFields, ok, trailer}
 use Rattle.pcs.specs.Contract.{link}
 
--- a new start, a byte too many, and the tests at the end of a frame: least size, a plain frame too long, check values, fields, length, data badly packed
+-- a new start, a byte too many, and the tests at the end of a frame: size, check values, fields, length, data badly packed
 abbrev pub streamNumbers : List ℕ
 streamNumbers = 4 ∷ 5 ∷ 6 ∷ 8 ∷ 9 ∷ 10 ∷ 13 ∷ []
 
@@ -38,4 +38,5 @@ EitherWay =
 
 -- the CRC covers the whole body: two that are equally long and differ only within two neighbouring bytes have different trailers
 abbrev pub CrcDetects : Type 0
-CrcDetects = (u v : List ℕ) → Bytes u → Bytes v → length u ≡ length v → DifferWithin 2 u v → u ≢ v → trailer true u ≢ trailer true v
+CrcDetects =
+    (u v : List ℕ) → Bytes u → Bytes v → length u ≡ length v → DifferWithin 2 u v → u ≢ v → trailer true u ≢ trailer true v

@@ -62,7 +62,8 @@ infoBase crc = cond crc 12 4
 -- receiver, sender, info, number, length high and low in seven bits each, both ports; the length is that of the packed data, whatever follows them
 abbrev pub header : Message → ℕ → List ℕ
 header m k =
-    m .receiver ∷ m .sender ∷ (infoBase (m .crc) + m .kind) ∷ m .number ∷ sent (k / 128) ∷ sent (k % 128) ∷ m .sender-port ∷ m .receiver-port ∷ []
+    m .receiver ∷ m .sender ∷ (infoBase (m .crc) + m .kind) ∷ m .number
+    ∷ sent (k / 128) ∷ sent (k % 128) ∷ m .sender-port ∷ m .receiver-port ∷ []
 
 -- what the sum and the CRC cover: the header and the packed data, as sent
 abbrev pub body : Message → List ℕ

@@ -15,7 +15,7 @@ use Rattle.pcs.specs.Frame.{Message, withFields, plainFieldsOk, kindOk, 
 abbrev pub size : ℕ
 size = 1183
 
--- the most bytes of a frame without a CRC
+-- the most bytes that are gathered of a frame without a CRC
 abbrev pub plainSize : ℕ
 plainSize = 1180
 

@@ -60,14 +60,14 @@ pub fn info_ok(info: u8) -> bool
     if info <= 7 { 4 <= info } else { crc_info(info) }
 }
 
-// What an info byte is above the kind.
+// The info byte of kind 0, to which the kind is added.
 pub fn info_base(crc: bool) -> u8
     ensures { λ r. ⌜ r ≡ infoBase crc ⌝ }
 {
     if crc { 12 } else { 4 }
 }
 
-// How many bytes follow the body.
+// How many bytes a trailer has.
 pub fn trailing(crc: bool) -> usize
     ensures { λ r. ⌜ r ≡ trailing crc ⌝ }
 {

@@ -26,7 +26,7 @@ ghost use Rattle.pcs.specs.Steps.{trailerFault, toldWith, ByRules, Open,
 // The least store of a receiver: a header of 8 bytes, at most 1,171 packed bytes, the sum, three bytes of CRC.
 const SIZE: usize = 1183;
 
-// The most bytes of a frame without a CRC.
+// The most bytes that are gathered of a frame without a CRC.
 const PLAIN_SIZE: usize = 1180;
 
 // The numbers of a message. The data of an accepted one lie in the store from place 0.
@@ -214,7 +214,7 @@ fn crc_fault(gathered: &[u8]) -> u8
     0
 }
 
-// The same for a frame of either sort.
+// 6, 5 or 8 where gathered bytes fail the first tests of a frame with or without a CRC, else 0.
 fn trailer_fault(gathered: &[u8], crc: bool) -> u8
     ensures { λ r. ⌜ r ≡ trailerFault crc (now (gathered .entry)) ⌝ }
 {

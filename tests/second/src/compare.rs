@@ -518,7 +518,7 @@ mod tests {
         fn pcs_answer(&self, frame: &[u8], answer: u64) -> u64 {
             let [253, gathered @ .., 254] = frame else { return answer };
             let n = gathered.len();
-            let crc = pcs::asks_crc(gathered);
+            let crc = pcs::has_crc(gathered);
             let again = |frame: Vec<u8>| Own.pcs_read(&frame, &mut [0; 1183]);
             match self.0 {
                 19 => answer & !(1 << 22),

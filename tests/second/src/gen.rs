@@ -192,7 +192,7 @@ pub fn restate(wire: Wire, content: &mut [u8]) {
 pub fn close(wire: Wire, content: &[u8]) -> Vec<u8> {
     let mut frame = Vec::new();
     match wire {
-        Wire::Pcs => frame = between_marks(content, &pcs::checks(content, pcs::asks_crc(content))),
+        Wire::Pcs => frame = between_marks(content, &pcs::checks(content, pcs::has_crc(content))),
         Wire::Mdu => {
             frame.extend(content);
             let check = crc::crc16(0, content.get(6..).unwrap_or(&[]));
@@ -288,7 +288,7 @@ fn header_changed(random: &mut Xorshift, wire: Wire) -> Vec<u8> {
     let mut frame = close(wire, &bytes);
     if random.once_in(6) {
         // The check value wrong too; with PCS's CRC any byte of the two.
-        let behind = if wire == Wire::Pcs && pcs::asks_crc(&bytes) { 2 + random.below(4) } else { 2 };
+        let behind = if wire == Wire::Pcs && pcs::has_crc(&bytes) { 2 + random.below(4) } else { 2 };
         let place = frame.len().saturating_sub(behind);
         frame[place] ^= 1 << random.below(3);
     }
@@ -422,9 +422,9 @@ fn checks_mistaken(random: &mut Xorshift) -> Vec<u8> {
 /// byte right as a plain frame's sum, or with all put right.
 fn sort_changed(random: &mut Xorshift) -> Vec<u8> {
     let mut body = content(random, Wire::Pcs);
-    let before = pcs::checks(&body, pcs::asks_crc(&body));
+    let before = pcs::checks(&body, pcs::has_crc(&body));
     body[2] ^= 8;
-    let crc = pcs::asks_crc(&body);
+    let crc = pcs::has_crc(&body);
     match random.below(4) {
         0 => between_marks(&body, &before),
         1 => between_marks(&body, &pcs::checks(&body, !crc)),

@@ -25,7 +25,7 @@ const PLAIN_MOST: usize = 1180;
 pub struct Message {
     pub receiver: u8,
     pub sender: u8,
-    /// 0 plain, 1 asks for an acknowledgement, 2 and 3 are the positive and the negative one.
+    /// 0 ordinary, 1 asks for an acknowledgement, 2 and 3 are the positive and the negative one.
     pub kind: u8,
     pub number: u8,
     pub sender_port: u8,
@@ -58,7 +58,7 @@ pub fn ok(receiver: u8, sender: u8, kind: u8, number: u8, sender_port: u8, recei
 }
 
 /// Whether the info among these bytes from the receiver's address on, if they reach so far, is one with CRC.
-pub fn asks_crc(bytes: &[u8]) -> bool {
+pub fn has_crc(bytes: &[u8]) -> bool {
     matches!(bytes.get(2), Some(12..=15))
 }
 
@@ -108,7 +108,7 @@ pub fn write(
 /// The tests at 254, in the order of 02's request 2: 6, 5, 8, 9, 10, 13. `gathered` are the
 /// bytes between 253 and 254. An accepted message comes with its unpacked data.
 fn judge(gathered: &[u8]) -> Result<(Message, Vec<u8>), u8> {
-    let crc = asks_crc(gathered);
+    let crc = has_crc(gathered);
     let behind = if crc { 4 } else { 1 };
     if gathered.len() < HEADER + behind {
         return Err(6);

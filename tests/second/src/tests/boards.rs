@@ -16,16 +16,16 @@ fn gathered(frame: &[u8]) -> Vec<u8> {
     frame[1..frame.len() - 1].to_vec()
 }
 
-/// A body closed as its info asks, with one check byte changed.
+/// A body with the check bytes of its sort, one of them changed.
 fn wrong(body: &[u8], place: usize) -> Vec<u8> {
-    let mut checks = pcs::checks(body, pcs::asks_crc(body));
+    let mut checks = pcs::checks(body, pcs::has_crc(body));
     checks[place] ^= 1;
     [body, &checks].concat()
 }
 
 /// A body closed as its info asks, all checks right.
 fn right(body: &[u8]) -> Vec<u8> {
-    [body, &pcs::checks(body, pcs::asks_crc(body))].concat()
+    [body, &pcs::checks(body, pcs::has_crc(body))].concat()
 }
 
 #[test]

@@ -12,7 +12,7 @@ use crate::sum;
 /// Document 000's display message.
 const DISPLAY: ([u8; 6], &[u8]) = MESSAGES[2];
 
-/// The shortest body with CRC: its sum as a plain frame's is 17.
+/// The shortest body with CRC; its sum is 17.
 const EMPTY: [u8; 8] = [1, 1, 12, 1, 128, 128, 1, 1];
 
 /// Bodies for 9, 10 and 13, and good ones beside them; sum and CRC are put behind each.

@@ -34,7 +34,7 @@ pub const UNSENDABLE: [[u8; 6]; 13] = [
     [1, 1, 0, 1, 1, 251],
 ];
 
-/// Whole frames for 6, those with CRC where a plain one would be long enough, and 8.
+/// Whole frames for 6 (two as long as a plain frame needs, but with the info of one with CRC) and for 8.
 const FRAMES: [&[u8]; 5] = [
     &[253, 254],
     &[253, 1, 1, 12, 1, 128, 128, 1, 25, 254],
@@ -103,7 +103,7 @@ pub fn summed(message: usize) -> Vec<u8> {
 
 /// These bytes between the marks, with the check bytes behind them that their info asks for.
 pub fn closed(bytes: &[u8]) -> Vec<u8> {
-    [&[253], bytes, &pcs::checks(bytes, pcs::asks_crc(bytes)), &[254]].concat()
+    [&[253], bytes, &pcs::checks(bytes, pcs::has_crc(bytes)), &[254]].concat()
 }
 
 fn documents(s: &mut Section) {

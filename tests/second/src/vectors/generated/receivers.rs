@@ -72,7 +72,7 @@ fn gathered(random: &mut Xorshift, wire: Wire) -> Vec<u8> {
         gen::damage(random, &mut bytes, 0);
     }
     match wire {
-        Wire::Pcs => bytes.extend(pcs::checks(&bytes, pcs::asks_crc(&bytes))),
+        Wire::Pcs => bytes.extend(pcs::checks(&bytes, pcs::has_crc(&bytes))),
         Wire::Mdu => bytes.extend(crc::crc16(0, bytes.get(6..).unwrap_or(&[])).to_be_bytes()),
         Wire::Dle => {}
         Wire::Expansion => bytes.extend(crc::crc32(&bytes).to_le_bytes()),
