@@ -1,6 +1,6 @@
 -- Body and trailer of gathered bytes: the info and the length say how they part.
 use Prim.Native.Nat.{ℕ, _+_, _-_, _%_, _≤_, _<_}
-use mathlib.Core.Path.{_≡_, refl, ap₂, _∙_}
+use mathlib.Core.Path.{_≡_, refl, ap, ap₂, sym, _∙_}
 use mathlib.Core.Bool.{Bool, true, false, cond, _&&_, _||_, false≢true, and-true}
 use mathlib.Core.List.{List, [], _∷_, _++_}
 use native.Mathlib.Omega.{arith}
@@ -58,6 +58,11 @@ module _ (g b : List ℕ) (at : ℕ) (h : at < length g) (crc : Bool) where
 
   pub trailer-crc : getD g at 0 ≡ sumOf b → crc ≡ true → same (drop at g) (trailer crc b) ≡ same (drop (at + 1) g) (crcBytes (crc16Of b))
   trailer-crc e t = same-step g at (sumOf b) (cond crc (crcBytes (crc16Of b)) []) h ∙ rw (eq-eqb (getD g at 0) (sumOf b) e, t)
+
+  -- so by the answer that the three bytes of the CRC's value are compared with
+  pub trailer-said : getD g at 0 ≡ sumOf b → crc ≡ true → (value : ℕ) → value ≡ crc16Of b → (r : Bool) → r ≡ same (drop (at + 1) g) (crcBytes value)
+      → same (drop at g) (trailer crc b) ≡ r
+  trailer-said e t value v r s = trailer-crc e t ∙ sym (s ∙ ap (λ (n : ℕ). same (drop (at + 1) g) (crcBytes n)) v)
 
   pub trailer-plain : getD g at 0 ≡ sumOf b → crc ≡ false → at + 1 ≡ length g → same (drop at g) (trailer crc b) ≡ true
   trailer-plain e f l = same-step g at (sumOf b) _ h ∙ rw (eq-eqb (getD g at 0) (sumOf b) e, f) (same-end g (at + 1) (omega arith))

@@ -1,14 +1,12 @@
-use Prim.Native.Nat.{ℕ, _+_, _-_}
-use mathlib.Core.Path.{refl, ap, sym, _∙_}
+use Prim.Native.Nat.{_-_}
+use mathlib.Core.Path.{refl, sym, _∙_}
 use mathlib.Core.Bool.{true}
 use native.Mathlib.Omega.{arith}
-use lib.ListN.{length, take, drop}
+use lib.ListN.{length, take}
 use lib.Seq.{length-take-le}
 use borrow.Author.Tests.{lt-ltb, le-ltb, not-true, not-false}
 use borrow.Author.Needs.{needs}
-use Rattle.pcs.specs.Frame.{crcBytes}
-use Rattle.pcs.specs.Rules.{same}
-use Rattle.pcs.proofs.Trailer.{trailer-wrong, trailer-crc}
+use Rattle.pcs.proofs.Trailer.{trailer-wrong, trailer-said}
 use Rattle.pcs.proofs.crc_fault.Statement.{statement}
 use Rattle.pcs.proofs.crc_fault.Tie as tie
 
@@ -44,9 +42,9 @@ returns-3 c =
     let s = i .before .before .before .before in
     let g = s .before .before .args .gathered .now in
     let end = length g - 4 in
-    let three = ap (λ (n : ℕ). same (drop (end + 1) g) (crcBytes n)) (v .crc16 .ensures) in
-    let tail = trailer-crc g (take end g) end (let n = s .if1 .left in omega arith) true (i .if2 .left ∙ i .before .sum .ensures) refl in
-    rw (le-ltb _ 12 (s .if1 .left), tail ∙ sym (c .before .crc-right .ensures ∙ three) ∙ not-true _ (c .if3 .taken))
+    let said = trailer-said g (take end g) end (let n = s .if1 .left in omega arith) true (i .if2 .left ∙ i .before .sum .ensures) refl
+    (v .crc16 .result) (v .crc16 .ensures) _ (c .before .crc-right .ensures) in
+    rw (le-ltb _ 12 (s .if1 .left), said ∙ not-true _ (c .if3 .taken))
 
 returns-4 : tie.Need-returns-4
 returns-4 c =
@@ -55,9 +53,9 @@ returns-4 c =
     let s = i .before .before .before .before in
     let g = s .before .before .args .gathered .now in
     let end = length g - 4 in
-    let three = ap (λ (n : ℕ). same (drop (end + 1) g) (crcBytes n)) (v .crc16 .ensures) in
-    let tail = trailer-crc g (take end g) end (let n = s .if1 .left in omega arith) true (i .if2 .left ∙ i .before .sum .ensures) refl in
-    rw (le-ltb _ 12 (s .if1 .left), tail ∙ sym (c .before .crc-right .ensures ∙ three) ∙ not-false _ (c .if3 .left))
+    let said = trailer-said g (take end g) end (let n = s .if1 .left in omega arith) true (i .if2 .left ∙ i .before .sum .ensures) refl
+    (v .crc16 .result) (v .crc16 .ensures) _ (c .before .crc-right .ensures) in
+    rw (le-ltb _ 12 (s .if1 .left), said ∙ not-false _ (c .if3 .left))
 
 pub crc-fault-spec : {M : Type 1} → statement M
 crc-fault-spec =
