@@ -57,7 +57,8 @@ pub fn crc_info(info: u8) -> bool
 pub fn info_ok(info: u8) -> bool
     ensures { λ r. ⌜ r ≡ infoOk info ⌝ }
 {
-    if info <= 7 { 4 <= info } else { crc_info(info) }
+    let high = info / 4;
+    high == 1 || high == 3
 }
 
 // The info byte of kind 0, to which the kind is added.
