@@ -6,7 +6,7 @@ use mathlib.Core.List.{List, [], _∷_, _++_}
 use native.Mathlib.Omega.{arith}
 use lib.Dec.{eqb, leb}
 use native.Mathlib.Numerals.{add-one}
-use lib.ListN.{length, drop, getD, length-append, take-append-drop, drop-of-length-le}
+use lib.ListN.{length, take, drop, getD, length-append, take-append-drop, drop-of-length-le}
 use lib.Seq.{take-at, drop-at, drop-cons}
 use borrow.Author.Tests.{eqb-true, eq-eqb, ne-eqb, leb-true, le-leb, lt-leb}
 use Rattle.runs.proofs.Cases.{and-both}
@@ -60,12 +60,17 @@ module _ (g b : List ℕ) (at : ℕ) (h : at < length g) (crc : Bool) where
   trailer-crc e t = same-step g at (sumOf b) (cond crc (crcBytes (crc16Of b)) []) h ∙ rw (eq-eqb (getD g at 0) (sumOf b) e, t)
 
   -- so by the answer that the three bytes of the CRC's value are compared with
-  pub trailer-said : getD g at 0 ≡ sumOf b → crc ≡ true → (value : ℕ) → value ≡ crc16Of b → (r : Bool) → r ≡ same (drop (at + 1) g) (crcBytes value)
+  trailer-said : getD g at 0 ≡ sumOf b → crc ≡ true → (value : ℕ) → value ≡ crc16Of b → (r : Bool) → r ≡ same (drop (at + 1) g) (crcBytes value)
       → same (drop at g) (trailer crc b) ≡ r
   trailer-said e t value v r s = trailer-crc e t ∙ sym (s ∙ ap (λ (n : ℕ). same (drop (at + 1) g) (crcBytes n)) v)
 
   pub trailer-plain : getD g at 0 ≡ sumOf b → crc ≡ false → at + 1 ≡ length g → same (drop at g) (trailer crc b) ≡ true
   trailer-plain e f l = same-step g at (sumOf b) _ h ∙ rw (eq-eqb (getD g at 0) (sumOf b) e, f) (same-end g (at + 1) (omega arith))
+
+-- a frame with a CRC has its trailer in the last four bytes
+pub last-four : (g : List ℕ) → 12 ≤ length g → getD g (length g - 4) 0 ≡ sumOf (take (length g - 4) g) → (value : ℕ) → value ≡ crc16Of (take (length g - 4) g)
+    → (r : Bool) → r ≡ same (drop (length g - 4 + 1) g) (crcBytes value) → same (drop (length g - 4) g) (trailer true (take (length g - 4) g)) ≡ r
+last-four g h e value v r s = trailer-said g (take (length g - 4) g) (length g - 4) (omega arith) true e refl value v r s
 
 -- ---- what the info says
 

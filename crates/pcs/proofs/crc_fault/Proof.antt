@@ -1,12 +1,12 @@
 use Prim.Native.Nat.{_-_}
-use mathlib.Core.Path.{refl, sym, _∙_}
+use mathlib.Core.Path.{sym, _∙_}
 use mathlib.Core.Bool.{true}
 use native.Mathlib.Omega.{arith}
 use lib.ListN.{length, take}
 use lib.Seq.{length-take-le}
 use borrow.Author.Tests.{lt-ltb, le-ltb, not-true, not-false}
 use borrow.Author.Needs.{needs}
-use Rattle.pcs.proofs.Trailer.{trailer-wrong, trailer-said}
+use Rattle.pcs.proofs.Trailer.{trailer-wrong, last-four}
 use Rattle.pcs.proofs.crc_fault.Statement.{statement}
 use Rattle.pcs.proofs.crc_fault.Tie as tie
 
@@ -37,24 +37,18 @@ crc-right-requires c κs = let n = c .before .before .before .before .before .be
 
 returns-3 : tie.Need-returns-3
 returns-3 c =
-    let v = c .before .before in
-    let i = v .before .before in
+    let i = c .before .before .before .before in
     let s = i .before .before .before .before in
-    let g = s .before .before .args .gathered .now in
-    let end = length g - 4 in
-    let said = trailer-said g (take end g) end (let n = s .if1 .left in omega arith) true (i .if2 .left ∙ i .before .sum .ensures) refl
-    (v .crc16 .result) (v .crc16 .ensures) _ (c .before .crc-right .ensures) in
+    let said = last-four (s .before .before .args .gathered .now) (s .if1 .left) (i .if2 .left ∙ i .before .sum .ensures)
+    (c .before .before .crc16 .result) (c .before .before .crc16 .ensures) (c .before .crc-right .result) (c .before .crc-right .ensures) in
     rw (le-ltb _ 12 (s .if1 .left), said ∙ not-true _ (c .if3 .taken))
 
 returns-4 : tie.Need-returns-4
 returns-4 c =
-    let v = c .before .before in
-    let i = v .before .before in
+    let i = c .before .before .before .before in
     let s = i .before .before .before .before in
-    let g = s .before .before .args .gathered .now in
-    let end = length g - 4 in
-    let said = trailer-said g (take end g) end (let n = s .if1 .left in omega arith) true (i .if2 .left ∙ i .before .sum .ensures) refl
-    (v .crc16 .result) (v .crc16 .ensures) _ (c .before .crc-right .ensures) in
+    let said = last-four (s .before .before .args .gathered .now) (s .if1 .left) (i .if2 .left ∙ i .before .sum .ensures)
+    (c .before .before .crc16 .result) (c .before .before .crc16 .ensures) (c .before .crc-right .result) (c .before .crc-right .ensures) in
     rw (le-ltb _ 12 (s .if1 .left), said ∙ not-false _ (c .if3 .left))
 
 pub crc-fault-spec : {M : Type 1} → statement M
