@@ -11,10 +11,11 @@ ghost use mathlib.Core.List.{_++_};
 ghost use Prim.Native.Nat.{ℕ, _+_, _*_, _-_, _/_, _%_, _^_, _≤_, _<_};
 ghost use lib.ListN.{length, take, drop};
 ghost use Rattle.runs.specs.Number.{littleEndian};
+ghost use Rattle.packing.specs.Seven.{sent};
 ghost use Rattle.checksum.specs.Crc.{shifts, run, crc16From, crc32Of};
 ghost use Rattle.checksum.specs.Tables.{NibbleTable, BraidTable, AfterBytes, AfterWords};
 ghost use Rattle.checksum.specs.Braids.{registersOf, StandsFor, Braided};
-ghost use Rattle.checksum.specs.Sum.{totalOf, lowered, sumOf};
+ghost use Rattle.checksum.specs.Sum.{lowered, sumOf};
 
 // From so many bytes on, a table for long runs is worth its laying out.
 const LONG: usize = 96;
@@ -276,19 +277,6 @@ pub fn crc32_joined(first: &[u8], second: &[u8]) -> u32
     after32(&table, after(&table, 0xFFFF_FFFF, first), second) ^ 0xFFFF_FFFF
 }
 
-// The bytes added up, modulo 256.
-fn total(bytes: &[u8]) -> u8
-    ensures { λ r. ⌜ r ≡ totalOf (now (bytes .entry)) ⌝ }
-{
-    let mut r: u8 = 0;
-    let mut i = 0;
-    while i < bytes.len() {
-        r = std::num::wrapping_add_u8(r, bytes[i]);
-        i += 1;
-    }
-    r
-}
-
 // Above 250, 128 is taken away.
 fn lower(r: u8) -> u8
     ensures { λ s. ⌜ s ≡ lowered r ⌝ }
@@ -296,9 +284,16 @@ fn lower(r: u8) -> u8
     if r > 250 { r - 128 } else { r }
 }
 
+// The sum of PCS, from the total of the bytes that it covers.
+pub fn sum_of_total(total: u8) -> u8
+    ensures { λ r. ⌜ r ≡ sent (lowered total) ⌝ }
+{
+    packing::sent_as(lower(total))
+}
+
 // The sum of PCS, of these bytes as sent.
 pub fn sum(bytes: &[u8]) -> u8
     ensures { λ r. ⌜ r ≡ sumOf (now (bytes .entry)) ⌝ }
 {
-    packing::sent_as(lower(total(bytes)))
+    sum_of_total(runs::total(0, bytes))
 }

@@ -1,12 +1,13 @@
 -- What the number of a call's tests says, for the writers and the receivers that ask for it.
 use Prim.Native.Nat.{ℕ, _≤_}
-use mathlib.Core.Path.{_≡_, refl, sym, _∙_}
-use mathlib.Core.Bool.{Bool, true, not}
+use mathlib.Core.Path.{_≡_, refl, sym, ap, ap₂, _∙_}
+use mathlib.Core.Bool.{Bool, true, false, not}
 use mathlib.Core.List.{List, [], _∷_}
 use lib.Dec.{leb}
 use lib.ListN.{length}
 use lib.Seq.{sets}
-use borrow.Author.Tests.{leb-true, eq-eqb, ne-eqb, not-false}
+use native.Mathlib.Omega.{arith}
+use borrow.Author.Tests.{leb-true, le-leb, eq-eqb, ne-eqb, not-false}
 use Rattle.framing.specs.Answer.{done, refused}
 use Rattle.framing.specs.Receiver.{feed}
 use Rattle.framing.specs.Tests.{writeFault, callFault}
@@ -14,23 +15,43 @@ use Rattle.framing.specs.Writer.{writes}
 use Rattle.framing.specs.Link.{Link, Lent, stepOn, reported, receives}
 use Rattle.framing.specs.Link as Link
 use Rattle.framing.proofs.Tests.{none-fires}
+use Rattle.framing.proofs.Stored.{by-writer, writes-done}
 
--- n: what a writer was told of a message, by a test of it and the length of its frame
-module _ {M : Type 0} (ok : M → Bool) (frame : M → List ℕ) (m : M) (memory : List ℕ) (sendable : Bool) (total n : ℕ) (s : sendable ≡ ok m)
-    (t : total ≡ length (frame m)) (e : n ≡ writeFault sendable (leb total (length memory))) where
-  tested : n ≡ writeFault (ok m) (leb (length (frame m)) (length memory))
-  tested = e ∙ (λ i. writeFault (s i) (leb (t i) (length memory)))
+-- n: what a writer was told of a message, by a test of it and a length that its frame has at least
+module _ {M : Type 0} (ok : M → Bool) (frame : M → List ℕ) (m : M) (memory : List ℕ) (sendable : Bool) (least n : ℕ) (s : sendable ≡ ok m)
+    (l : least ≤ length (frame m)) (e : n ≡ writeFault sendable (leb least (length memory))) where
+  -- with this test of the message, and that one of the memory
+  told : (o t : Bool) → ok m ≡ o → leb least (length memory) ≡ t → n ≡ writeFault o t
+  told o t h k = e ∙ ap₂ writeFault (s ∙ h) k
 
-  pub write-refused : (n ≡ 0 → ⊥) → (refused n, memory) ≡ writes ok frame m memory
-  write-refused h = rw (sym tested, ne-eqb n 0 h)
+  short : ok m ≡ true → (n ≡ 0 → ⊥) → n ≡ 2
+  short o h = go (leb least (length memory)) refl
+    where
+      go : (t : Bool) → leb least (length memory) ≡ t → n ≡ 2
+      go true k = absurd (h (told true true o k))
+      go false k = told true false o k
 
-  pub write-taken : n ≡ 0 → (ok m ≡ true) × (total ≤ length memory)
-  write-taken h =
-      let f = none-fires ((not sendable, 3) ∷ (not (leb total (length memory)), 2) ∷ []) refl (sym e ∙ h) in
+  pub early-refused : (n ≡ 0 → ⊥) → (refused n, memory) ≡ writes ok frame m memory
+  early-refused h =
+      by-writer ok frame m memory (λ w. (refused n, memory) ≡ w) (λ o. ap (λ (k : ℕ). (refused k, memory)) (told false _ o refl))
+      (λ o _. ap (λ (k : ℕ). (refused k, memory)) (short o h)) (λ o f. absurd (h (told true true o (le-leb least (length memory) (omega arith)))))
+
+  pub early-passed : n ≡ 0 → (ok m ≡ true) × (least ≤ length memory)
+  early-passed h =
+      let f = none-fires ((not sendable, 3) ∷ (not (leb least (length memory)), 2) ∷ []) refl (sym e ∙ h) in
       (sym s ∙ not-false _ (f .0), leb-true _ _ (not-false _ (f .1 .0)))
 
+-- by the length of its frame itself
+module _ {M : Type 0} (ok : M → Bool) (frame : M → List ℕ) (m : M) (memory : List ℕ) (sendable : Bool) (total n : ℕ) (s : sendable ≡ ok m)
+    (t : total ≡ length (frame m)) (e : n ≡ writeFault sendable (leb total (length memory))) where
+  pub write-refused : (n ≡ 0 → ⊥) → (refused n, memory) ≡ writes ok frame m memory
+  write-refused = early-refused ok frame m memory sendable total n s (omega (arith, t)) e
+
+  pub write-taken : n ≡ 0 → (ok m ≡ true) × (total ≤ length memory)
+  write-taken = early-passed ok frame m memory sendable total n s (omega (arith, t)) e
+
   pub write-done : (after : List ℕ) → n ≡ 0 → after ≡ sets memory 0 (frame m) → (done total, after) ≡ writes ok frame m memory
-  write-done after h a = rw (sym tested, eq-eqb n 0 h, t, a)
+  write-done after h a = writes-done ok frame m memory after total (write-taken h .0) t (write-taken h .1) a
 
 -- n: what a receiver was told of a call, by a test of its state
 module _ (L : Link) (c : Lent L) (piece : List ℕ) (known : Bool) (n : ℕ) (k : known ≡ L .known (c .0)) (e : n ≡ callFault known (leb (L .size) (length (c .1)))) where

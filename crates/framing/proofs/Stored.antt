@@ -43,3 +43,11 @@ module _ {M : Type 0} (ok : M → Bool) (frame : M → List ℕ) (m : M) (memory
   writes-stored o =
       by-writer (λ w. w ≡ storedAt (frame m) memory 0) (λ e. absurd (false≢true (sym e ∙ o))) (λ _ l. sym (stored-refused (frame m) memory 0 (omega arith)))
       (λ _ l. sym (stored-done (frame m) memory 0 (omega arith)))
+
+  -- once it is known that the message may be sent: what a writer answers that stored the frame, and one that found too little room
+  pub writes-done : (after : List ℕ) (n : ℕ) → ok m ≡ true → n ≡ length (frame m) → n ≤ length memory → after ≡ sets memory 0 (frame m)
+      → (done n, after) ≡ writes ok frame m memory
+  writes-done after n o e h a = stored-so (frame m) memory 0 after n e (omega arith) a ∙ sym (writes-stored o)
+
+  pub writes-short : ok m ≡ true → length memory < length (frame m) → (refused 2, memory) ≡ writes ok frame m memory
+  writes-short o h = sym (stored-refused (frame m) memory 0 (omega arith)) ∙ sym (writes-stored o)

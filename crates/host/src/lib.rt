@@ -23,11 +23,7 @@ ghost use Rattle.host.specs.Steps.{Short};
 fn is_exact(length: usize, used: usize, noise: u32) -> bool
     ensures { λ r. ⌜ r ≡ exactly length used noise ⌝ }
 {
-    if length < 4294967296 {
-        if used == length { noise == 0 } else { false }
-    } else {
-        false
-    }
+    used == length && noise == 0 && length < 4294967296
 }
 
 // The bit that tells of a CRC, at its place.

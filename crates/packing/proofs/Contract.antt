@@ -1,14 +1,25 @@
--- What unpacking answers and leaves, case by case: callers cite these laws and open no definition.
+-- What the calls answer and leave, case by case: callers cite these laws and open no definition.
 use mathlib.Core.Path.{_≡_}
 use mathlib.Core.Bool.{true, false}
 use mathlib.Core.List.{List}
 use mathlib.Core.Option.{none, some}
-use Prim.Native.Nat.{ℕ}
+use Prim.Native.Nat.{ℕ, _+_, _≤_, _<_}
 use lib.ListN.{length, take, drop}
 use lib.Seq.{sets}
+use borrow.Author.Tests.{le-leb, lt-leb}
+use Rattle.runs.specs.Total.{totalFrom}
 use Rattle.framing.specs.Answer.{done, refused}
 use Rattle.packing.specs.Unpacked.{dataInGroups, wellPacked, unpacked}
-use Rattle.packing.specs.Contract.{storedFirst, unpackedIn}
+use Rattle.packing.specs.Contract.{summedAt, storedFirst, unpackedIn}
+
+module _ (s : ℕ) (run memory : List ℕ) (at : ℕ) where
+  pub summed-done : at + length run ≤ length memory → summedAt s run memory at ≡ (totalFrom s run, sets memory at run)
+  unfolding summedAt
+  summed-done h = rw (le-leb (at + length run) (length memory) h)
+
+  pub summed-none : length memory < at + length run → summedAt s run memory at ≡ (s, memory)
+  unfolding summedAt
+  summed-none h = rw (lt-leb (at + length run) (length memory) h)
 
 module _ (store : List ℕ) (from count : ℕ) where
   pub unpacked-done : (d : List ℕ) → unpacked (take count (drop from store)) ≡ some d

@@ -5,12 +5,14 @@ use runs::least;
 ghost use mathlib.Core.Path.{_≡_};
 ghost use Prim.Native.Nat.{_+_, _*_, _/_, _%_, _^_, _<_, _≤_};
 ghost use lib.ListN.{length, take, drop};
+ghost use lib.Dec.{leb};
 ghost use lib.Seq.{sets};
+ghost use Rattle.runs.specs.Total.{totalFrom};
 ghost use Rattle.framing.specs.Answer.{outcomeOf, storedAt};
 ghost use Rattle.packing.specs.Seven.{sent, isSent, valueOf};
 ghost use Rattle.packing.specs.Packed.{lastPlace, packedGroup, packed, packedLength};
 ghost use Rattle.packing.specs.Unpacked.{unpackedGroup, dataInGroups, allSent, unusedClear, wellEnded, wellPacked};
-ghost use Rattle.packing.specs.Contract.{unpackedIn};
+ghost use Rattle.packing.specs.Contract.{summedAt, unpackedIn};
 
 // A value as it goes out: 0 as 128, any other as itself.
 pub fn sent_as(v: u8) -> u8
@@ -49,37 +51,49 @@ fn tops_sent(top: u8, k: usize) -> u8
     sent_as(top << last_place(k))
 }
 
-// Stores the group g, packed, from place at on.
-fn pack_group(g: &[u8], out: &mut [u8], at: usize)
+// Stores the group g, packed, from place at on, and carries a total on over what it stores.
+fn pack_group(start: u8, g: &[u8], out: &mut [u8], at: usize) -> u8
     requires { ⌜ (length (now g) ≤ 7) × (at + length (now g) < length (now out)) ⌝ }
-    ensures { λ _. ⌜ now (out .exit) ≡ sets (now (out .entry)) at (packedGroup (now (g .entry))) ⌝ }
+    ensures total { λ r. ⌜ r ≡ totalFrom start (packedGroup (now (g .entry))) ⌝ }
+    ensures stored { λ r. ⌜ now (out .exit) ≡ sets (now (out .entry)) at (packedGroup (now (g .entry))) ⌝ }
 {
     let mut top: u8 = 0;
+    let mut total = start;
     let mut j = 0;
     while j < g.len() {
         let b = g[j];
-        out[at + j] = sent_as(b % 128);
+        let low = sent_as(b % 128);
+        out[at + j] = low;
+        total = std::num::wrapping_add_u8(total, low);
         top = 2 * top + b / 128;
         j += 1;
     }
-    out[at + j] = tops_sent(top, j);
+    let tops = tops_sent(top, j);
+    out[at + j] = tops;
+    std::num::wrapping_add_u8(total, tops)
 }
 
-// Stores the data, packed, from place at on: the full groups, in a loop where the compiler knows their size, then the short one, if any.
-fn pack_all(data: &[u8], out: &mut [u8], at: usize)
+// Stores the data, packed, from place at on: all groups but the last, in a loop where the compiler knows their size, then the last one.
+// A total is carried on over what is stored; the bytes of the last group are added before they are stored, so that short data are not read back.
+fn pack_all(start: u8, data: &[u8], out: &mut [u8], at: usize) -> u8
     requires { ⌜ at + packedLength (length (now «data»)) ≤ length (now out) ⌝ }
-    ensures { λ _. ⌜ now (out .exit) ≡ sets (now (out .entry)) at (packed (now («data» .entry))) ⌝ }
+    ensures total { λ r. ⌜ r ≡ totalFrom start (packed (now («data» .entry))) ⌝ }
+    ensures stored { λ r. ⌜ now (out .exit) ≡ sets (now (out .entry)) at (packed (now («data» .entry))) ⌝ }
 {
     let mut i = 0;
     let mut n = 0;
-    while 7 <= data.len() - i {
+    while 7 < data.len() - i {
         let end = i + 7;
-        pack_group(&data[i..end], out, at + n);
+        pack_group(0, &data[i..end], out, at + n);
         i = end;
         n += 8;
     }
+    let front = at + n;
+    let total = runs::total(start, &out[at..front]);
     if i < data.len() {
-        pack_group(&data[i..], out, at + n);
+        pack_group(total, &data[i..], out, front)
+    } else {
+        total
     }
 }
 
@@ -90,16 +104,34 @@ pub fn packed_length(data: &[u8]) -> usize
     data.len() + (data.len() + 6) / 7
 }
 
+// Whether the packed data fit into a memory of this size from place at on.
+fn has_room(data: &[u8], size: usize, at: usize) -> bool
+    ensures { λ r. ⌜ r ≡ leb (at + packedLength (length (now («data» .entry)))) size ⌝ }
+{
+    at <= size && packed_length(data) <= size - at
+}
+
 // Packs the data into out from place at on and answers the count of bytes. Where they do not fit nothing is written.
 pub fn pack_into(data: &[u8], out: &mut [u8], at: usize) -> Answer
     ensures { λ r. ⌜ (outcomeOf r, now (out .exit)) ≡ storedAt (packed (now («data» .entry))) (now (out .entry)) at ⌝ }
 {
-    let n = packed_length(data);
-    if out.len() < at || out.len() - at < n {
-        return Answer::Refused(refusal::OUTPUT_SHORT);
+    if has_room(data, out.len(), at) {
+        pack_all(0, data, out, at);
+        Answer::Done(packed_length(data))
+    } else {
+        Answer::Refused(refusal::OUTPUT_SHORT)
     }
-    pack_all(data, out, at);
-    Answer::Done(n)
+}
+
+// Packs the data into out from place at on and carries a total on over the packed bytes. Where they do not fit nothing is written or added.
+pub fn pack_summed(start: u8, data: &[u8], out: &mut [u8], at: usize) -> u8
+    ensures { λ r. ⌜ (r, now (out .exit)) ≡ summedAt start (packed (now («data» .entry))) (now (out .entry)) at ⌝ }
+{
+    if has_room(data, out.len(), at) {
+        pack_all(start, data, out, at)
+    } else {
+        start
+    }
 }
 
 // Whether every byte of p lies in 1 to 128.

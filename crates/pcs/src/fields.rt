@@ -32,7 +32,8 @@ pub fn receiver_ok(b: u8) -> bool
 pub fn kind_ok(kind: u8, count: usize) -> bool
     ensures { λ r. ⌜ r ≡ kindOk kind count ⌝ }
 {
-    kind <= 1 || (kind <= 3 && count == 0)
+    let most: u8 = if count == 0 { 3 } else { 1 };
+    kind <= most
 }
 
 // Whether the addresses, the number and the ports are allowed.

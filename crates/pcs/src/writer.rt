@@ -2,6 +2,7 @@
 use super::Message;
 use super::fields;
 use framing::Answer;
+use framing::refusal;
 ghost use mathlib.Core.Path.{_≡_};
 ghost use mathlib.Core.List.{[], _∷_, _++_};
 ghost use Prim.Native.Nat.{_+_, _-_, _≤_, _<_};
@@ -10,6 +11,7 @@ ghost use lib.Seq.{sets};
 ghost use Rattle.framing.specs.Answer.{outcomeOf};
 ghost use Rattle.framing.specs.Writer.{writes};
 ghost use Rattle.packing.specs.Packed.{packedLength};
+ghost use Rattle.checksum.specs.Sum.{totalOf};
 ghost use Rattle.pcs.specs.Frame.{ok, header, crcBytes, trailer, trailing, frame};
 ghost use Rattle.pcs.specs.Contract.{withData};
 
@@ -55,13 +57,13 @@ fn put_crc(out: &mut [u8], at: usize, value: u16)
     out[at + 3] = fields::END;
 }
 
-// Stores the trailer of the body, which stands behind the start mark up to a place, and the end mark from that place on.
-fn put_end(out: &mut [u8], at: usize, crc: bool)
-    requires { ⌜ (1 ≤ at) × (at + trailing crc < length (now out)) ⌝ }
+// Stores the trailer of the body, which stands behind the start mark up to a place and has this total, and the end mark from that place on.
+fn put_end(out: &mut [u8], at: usize, crc: bool, total: u8)
+    requires { ⌜ (1 ≤ at) × (at + trailing crc < length (now out)) × (total ≡ totalOf (take (at - 1) (drop 1 (now out)))) ⌝ }
     ensures { λ r. ⌜ now (out .exit)
         ≡ sets (now (out .entry)) at (trailer crc (take (at - 1) (drop 1 (now (out .entry)))) ++ (254 ∷ [])) ⌝ }
 {
-    let sum = checksum::sum(&out[1..at]);
+    let sum = checksum::sum_of_total(total);
     if crc {
         let value = checksum::crc16(0, &out[1..at]);
         out[at] = sum;
@@ -79,21 +81,26 @@ fn put_frame(message: Message, data: &[u8], packed: usize, out: &mut [u8])
     ensures { λ r. ⌜ now (out .exit) ≡ sets (now (out .entry)) 0 (frame (withData message (now («data» .entry)))) ⌝ }
 {
     put_header(message, packed, out);
-    packing::pack_into(data, out, 9);
-    put_end(out, 9 + packed, message.crc);
+    let head = runs::total(0, &out[1..9]);
+    let total = packing::pack_summed(head, data, out, 9);
+    put_end(out, 9 + packed, message.crc, total);
 }
 
-// Writes the frame of a message at the start of the lent memory, and answers its length.
+// Writes the frame of a message at the start of the lent memory, and answers its length. The room of a CRC is a test of its own, which
+// costs a frame without one less than a length that depends on the choice.
 pub fn write_message(message: Message, data: &[u8], out: &mut [u8]) -> Answer
     ensures { λ r. ⌜ (outcomeOf r, now (out .exit)) ≡ writes ok frame (withData message (now («data» .entry))) (now (out .entry)) ⌝ }
 {
     let packed = packing::packed_length(data);
-    let end = 10 + packed + fields::trailing(message.crc);
-    let fault = framing::write_fault(may_send(message, data), end <= out.len());
-    if fault == 0 {
-        put_frame(message, data, packed, out);
-        Answer::Done(end)
-    } else {
-        Answer::Refused(fault)
+    let plain = 11 + packed;
+    let fault = framing::write_fault(may_send(message, data), plain <= out.len());
+    if fault != 0 {
+        return Answer::Refused(fault);
     }
+    if message.crc && out.len() - plain < 3 {
+        return Answer::Refused(refusal::OUTPUT_SHORT);
+    }
+    put_frame(message, data, packed, out);
+    let end = 10 + packed + fields::trailing(message.crc);
+    Answer::Done(end)
 }

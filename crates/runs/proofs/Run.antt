@@ -106,6 +106,12 @@ module _ {A : Type 0} where
     run-end {n} {rest} {out} r e =
         r .out-is ∙ ap (sets d at) (sym (append-nil (r .so-far)) ∙ ap (λ (l : List A). r .so-far ++ l) (sym e) ∙ r .split)
 
+    -- what stands in memory from the place on, as far as it is stored, goes on with the rest
+    pub run-front : {n : ℕ} {rest out : List A} → Run d at whole n rest out → take n (drop at out) ++ rest ≡ whole
+    run-front {n} {rest} {out} r =
+        let stored : take (length (r .so-far)) (drop at (sets d at (r .so-far))) ≡ r .so-far = part-sets d at (r .so-far) (omega (arith, r)) in
+        ap (λ (l : List A). l ++ rest) (ap₂ (λ (k : ℕ) (l : List A). take k (drop at l)) (sym (r .count)) (r .out-is) ∙ stored) ∙ r .split
+
     -- past the end of what is stored the memory is as it was
     pub run-drop : {n : ℕ} {rest out : List A} (i : ℕ) → at + n ≤ i → Run d at whole n rest out → drop i out ≡ drop i d
     run-drop {n} {rest} {out} i h r = ap (drop i) (r .out-is) ∙ drop-sets (r .so-far) d at i (omega (arith, r))

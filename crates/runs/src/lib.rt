@@ -1,5 +1,5 @@
 // Runs of bytes, for every crate above: definitions in specs/, laws in proofs/, and here numbers of up to four bytes, low byte first, read from and
-// stored in slices, and the bytes of a run before the first mark. No function asks anything of its caller: bytes that are not there are not read,
+// stored in slices, the bytes of a run before the first mark, and the total of a run. No function asks anything of its caller: bytes that are not there are not read,
 // and places that are not there not stored to.
 ghost use mathlib.Core.Path.{_≡_};
 ghost use Prim.Native.Nat.{_-_, _≤_, min};
@@ -7,6 +7,7 @@ ghost use lib.ListN.{length, take, drop};
 ghost use lib.Seq.{sets};
 ghost use Rattle.runs.specs.Runs.{between, before};
 ghost use Rattle.runs.specs.Number.{littleEndian, bytesOf};
+ghost use Rattle.runs.specs.Total.{totalFrom};
 
 // The smaller of two numbers.
 pub fn least(a: usize, b: usize) -> usize
@@ -89,4 +90,17 @@ pub fn copy_before(low: u8, high: u8, s: &[u8], out: &mut [u8], at: usize, most:
         k += 1;
     }
     k
+}
+
+// The bytes added up from a start, modulo 256.
+pub fn total(start: u8, bytes: &[u8]) -> u8
+    ensures { λ r. ⌜ r ≡ totalFrom start (now (bytes .entry)) ⌝ }
+{
+    let mut r = start;
+    let mut i = 0;
+    while i < bytes.len() {
+        r = std::num::wrapping_add_u8(r, bytes[i]);
+        i += 1;
+    }
+    r
 }

@@ -1,11 +1,13 @@
-use mathlib.Core.Path.{_≡_, refl, ap, _∙_}
-use mathlib.Core.List.{List, _++_}
+use mathlib.Core.Path.{_≡_, refl, sym, ap, _∙_}
+use mathlib.Core.List.{List, _++_, append-nil}
 use Prim.Native.Nat.{ℕ, _+_, _-_, _≤_, _<_, min}
 use native.Mathlib.Omega.{arith}
 use borrow.Author.Needs.{needs}
 use lib.ListN.{length, drop, take, length-take, length-drop, drop-of-length-le}
 use lib.Seq.{sets, drop-drop}
-use Rattle.runs.proofs.Run.{Run, run-start, run-part, run-end}
+use Rattle.runs.specs.Total.{totalFrom}
+use Rattle.runs.proofs.Carried.{total-append}
+use Rattle.runs.proofs.Run.{Run, run-start, run-part, run-end, run-front}
 use Rattle.packing.specs.Packed.{packed, packedLength, packedGroup}
 use Rattle.packing.proofs.Group.{length-group}
 use Rattle.packing.proofs.Lengths.{length-packed, packed-nil, packed-next}
@@ -14,10 +16,10 @@ use Rattle.packing.proofs.pack_all.Tie as tie
 
 -- i lies within the data; the first n packed bytes are stored from place at on, and those of the data from i on are still to come
 abbrev Inv-loop : tie.InvT-loop
-Inv-loop d out₀ at i₀ n₀ out i n = (i ≤ length d) × Run out₀ at (packed d) n (packed (drop i d)) out
+Inv-loop start d out₀ at i₀ n₀ out i n = (i ≤ length d) × Run out₀ at (packed d) n (packed (drop i d)) out
 
 abbrev μ-loop : tie.MeasureT-loop
-μ-loop d out₀ at i₀ n₀ out i n = length d - i
+μ-loop start d out₀ at i₀ n₀ out i n = length d - i
 
 -- the group from place i to place e, as `&data[i..e]` has it
 abbrev part : List ℕ → ℕ → ℕ → List ℕ
@@ -83,43 +85,85 @@ add-n c = omega (arith, counts (c .before .before .before .before .before .befor
 loop-again : tie.Need-loop-again Inv-loop μ-loop
 loop-again c =
     let a = c .before .before .before .before .before .before in
-    (search needs, stored a (a .loop .i + 7) (omega arith) (omega arith) _ _ (omega arith) (c .before .before .pack-group .ensures))
+    (search needs, stored a (a .loop .i + 7) (omega arith) (omega arith) _ _ (omega arith) (c .before .before .pack-group .ensures .1))
 
-add-pack-group-2 : tie.Need-add-pack-group-2 Inv-loop μ-loop
-add-pack-group-2 c = omega (arith, counts (c .before .before .before .before))
+add-front : tie.Need-add-front Inv-loop μ-loop
+add-front c = omega (arith, counts (c .before))
+
+part-total-end : tie.Need-part-total-end Inv-loop μ-loop
+part-total-end c = omega (arith, counts (c .before .before))
+
+-- all groups but the last stand in memory, and `total` promises their total
+module _ (c : tie.After-total Inv-loop μ-loop) where
+  abbrev Head : tie.At-loop Inv-loop μ-loop
+  Head = c .before .before .before .before
+
+  abbrev Start : ℕ
+  Start = Head .before .before .before .args .start
+
+  abbrev Place : ℕ
+  Place = Head .before .before .before .args .at
+
+  abbrev Front : List ℕ
+  Front = take (Place + Head .loop .n - Place) (drop Place (Head .loop .out))
+
+  abbrev Rest : List ℕ
+  Rest = packed (drop (Head .loop .i) (D Head))
+
+  both : Front ++ Rest ≡ packed (D Head)
+  both =
+      let n : Place + Head .loop .n - Place ≡ Head .loop .n = omega arith in
+      ap (λ (k : ℕ). take k (drop Place (Head .loop .out)) ++ Rest) n ∙ run-front (Head .loop .inv .1)
+
+  -- carried on over the rest it is the total of the whole
+  carried : totalFrom (c .total .result) Rest ≡ totalFrom Start (packed (D Head))
+  carried =
+      ap (λ (t : ℕ). totalFrom t Rest) (c .total .ensures) ∙ sym (total-append Start Front Rest) ∙ ap (totalFrom Start) both
 
 pack-group-requires-2 : tie.Need-pack-group-requires-2 Inv-loop μ-loop
 pack-group-requires-2 c κs =
-    let a = c .before .before .before .before in
+    let a = c .before .before .before .before .before .before .before in
     fits a (length (D a)) (omega arith) (omega arith)
 
--- the short group ends the run
+-- the last group ends the run
 module _ (c : tie.After-slice-known3 Inv-loop μ-loop) where
+  abbrev T : tie.After-total Inv-loop μ-loop
+  T = c .before .before .before .before .before .before
+
   abbrev A : tie.At-loop Inv-loop μ-loop
-  A = c .before .before .before .before .before .before .before
+  A = T .before .before .before .before
 
   abbrev Out : List ℕ
-  Out = c .before .before .pack-group2 .last .1 .0
+  Out = c .before .before .pack-group2 .last .1 .1 .0
 
   last : Run (A .before .before .before .args .out .now) (A .before .before .before .args .at) (packed (D A)) (A .loop .n + (length (D A) - A .loop .i + 1))
       (packed (drop (length (D A)) (D A))) Out
-  last = stored A (length (D A)) (omega arith) (omega arith) _ Out refl (c .before .before .pack-group2 .ensures)
+  last = stored A (length (D A)) (omega arith) (omega arith) _ Out refl (c .before .before .pack-group2 .ensures .1)
 
 same-length : tie.Need-same-length Inv-loop μ-loop
 same-length c = last c .long
 
 returns : tie.Need-returns Inv-loop μ-loop
-returns c = run-end (last c) (ap packed (drop-of-length-le (D (A c)) {i = length (D (A c))} (omega arith)) ∙ packed-nil)
+returns c =
+    let a = A c in
+    let g = part (D a) (a .loop .i) (length (D a)) in
+    let none = ap packed (drop-of-length-le (D a) {i = length (D a)} (omega arith)) ∙ packed-nil in
+    let one : packed (drop (a .loop .i) (D a)) ≡ packedGroup g =
+    part-next (D a) (a .loop .i) (length (D a)) (omega arith) (omega arith) ∙ ap (λ (l : List ℕ). packedGroup g ++ l) none ∙ append-nil (packedGroup g) in
+    (c .before .before .pack-group2 .ensures .0 ∙ ap (totalFrom (T c .total .result)) (sym one) ∙ carried (T c), run-end (last c) none)
 
 same-length-2 : tie.Need-same-length-2 Inv-loop μ-loop
-same-length-2 c = c .before .before .loop .inv .1 .long
+same-length-2 c = c .before .before .before .before .before .loop .inv .1 .long
 
 returns-2 : tie.Need-returns-2 Inv-loop μ-loop
-returns-2 c = run-end (c .before .before .loop .inv .1) (ap packed (drop-of-length-le (D (c .before .before)) (c .if1 .left)) ∙ packed-nil)
+returns-2 c =
+    let a = c .before .before .before .before .before in
+    let none = ap packed (drop-of-length-le (D a) (c .if1 .left)) ∙ packed-nil in
+    (c .before .total .ensures ∙ ap (totalFrom (Start (c .before))) (sym (append-nil (Front (c .before))) ∙ ap (λ (l : List ℕ). Front (c .before) ++ l) (sym none) ∙ both (c .before)), run-end (a .loop .inv .1) none)
 
 pub pack-all-spec : {M : Type 1} → statement M
 pack-all-spec =
     tie.close
     (tie.spec Inv-loop μ-loop loop-holds (λ c. search needs) (λ c. search needs) (λ c. search needs) (λ c. search needs) (λ c. search needs)
-    add-pack-group pack-group-requires add-n (λ c. search needs) loop-again (λ c. search needs) (λ c. search needs) (λ c. search needs)
-    add-pack-group-2 pack-group-requires-2 same-length returns same-length-2 returns-2)
+    add-pack-group pack-group-requires add-n (λ c. search needs) loop-again add-front (λ c. search needs) (λ c. search needs) part-total-end (λ c κs. search needs)
+    (λ c. search needs) (λ c. search needs) (λ c. search needs) pack-group-requires-2 same-length returns same-length-2 returns-2)

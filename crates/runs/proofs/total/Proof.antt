@@ -4,17 +4,17 @@ use Prim.Native.Nat.{_+_, _-_, _%_, _≤_, _<_}
 use borrow.Author.Needs.{needs}
 use native.Mathlib.Omega.{arith}
 use lib.ListN.{length, drop, drop-of-length-le}
 use Rattle.runs.proofs.Bytes.{drop-next}
-use Rattle.checksum.specs.Sum.{totalOf}
-use Rattle.checksum.proofs.total.Statement.{statement}
-use Rattle.checksum.proofs.total.Tie as tie
+use Rattle.runs.specs.Total.{totalFrom}
+use Rattle.runs.proofs.total.Statement.{statement}
+use Rattle.runs.proofs.total.Tie as tie
 
 -- i lies within the bytes; r is a byte; r and the sum of the bytes from i on are the total, modulo 256
 abbrev Inv-loop : tie.InvT-loop
-Inv-loop bytes r₀ i₀ r i = (i ≤ length bytes) × (r < 256) × ((r + sum _+_ 0 (drop i bytes)) % 256 ≡ totalOf bytes)
+Inv-loop start bytes r₀ i₀ r i = (i ≤ length bytes) × (r < 256) × ((r + sum _+_ 0 (drop i bytes)) % 256 ≡ totalFrom start bytes)
 
 abbrev μ-loop : tie.MeasureT-loop
-μ-loop bytes r₀ i₀ r i = length bytes - i
+μ-loop start bytes r₀ i₀ r i = length bytes - i
 
 loop-again : tie.Need-loop-again Inv-loop μ-loop
 unfolding sum
