@@ -87,10 +87,6 @@ pub info-allowed : (crc : Bool) (k : ℕ) → k ≤ 3 → infoOk (infoBase crc +
 info-allowed true k h = rw (le-leb 4 (12 + k) (omega arith), lt-leb (12 + k) 7 (omega arith), le-leb 12 (12 + k) (omega arith), le-leb (12 + k) 15 (omega arith))
 info-allowed false k h = rw (le-leb 4 (4 + k) (omega arith), le-leb (4 + k) 7 (omega arith))
 
-pub info-range : (crc : Bool) → (4 ≤ infoBase crc) × (infoBase crc ≤ 12)
-info-range true = (omega arith, omega arith)
-info-range false = (omega arith, omega arith)
-
 -- and the info from them
 pub info-back : (i : ℕ) → infoOk i ≡ true → infoBase (crcInfo i) + i % 4 ≡ i
 info-back i h = go (leb 4 i && leb i 7) refl (crcInfo i) refl h

@@ -5,7 +5,7 @@ use mathlib.Core.Bool.{Bool, _&&_, not}
 use mathlib.Core.List.{List, [], _∷_}
 use mathlib.Core.Option.{Option}
 use lib.Dec.{ltb}
-use lib.ListN.{length, take, drop}
+use lib.ListN.{length, take, drop, set, getD}
 use Rattle.framing.specs.Answer.{Outcome, done, refused}
 use Rattle.framing.specs.Tests.{firstOf}
 use Rattle.framing.specs.Segment.{Segment, eventOf}
@@ -21,6 +21,14 @@ use Rattle.pcs.specs.Contract.{modeOf, numbersWith, link, toldOf}
 use Rattle.pcs.specs.declared.Message.{Message}
 use Rattle.pcs.specs.declared.Stepped.{Stepped}
 use Rattle.framing.specs.declared.Reached.{Reached}
+
+-- a message with another choice
+abbrev pub withCrc : Bool → Frame.Message → Frame.Message
+withCrc crc m = Frame.withFields (m .receiver) (m .sender) (m .kind) (m .number) (m .sender-port) (m .receiver-port) crc (m .payload)
+
+-- memory that begins with the header of a frame, whose info has become that of a frame with a CRC
+abbrev pub crcMarked : List ℕ → List ℕ
+crcMarked memory = set memory 3 (getD memory 3 0 + 8)
 
 -- the first three tests of gathered bytes, taken as a frame with or without a CRC
 abbrev pub trailerFault : Bool → List ℕ → ℕ

@@ -4,7 +4,7 @@ ghost use mathlib.Core.Path.{_≡_};
 ghost use mathlib.Core.List.{[]};
 ghost use Prim.Native.Nat.{_+_, _*_, _%_};
 ghost use Rattle.packing.specs.Seven.{valueOf};
-ghost use Rattle.pcs.specs.Frame.{plainOk, receiverOk, plainFieldsOk, kindOk, infoBase, trailing};
+ghost use Rattle.pcs.specs.Frame.{plainOk, receiverOk, plainFieldsOk, kindOk, trailing};
 ghost use Rattle.pcs.specs.Rules.{crcInfo, infoOk};
 ghost use Rattle.pcs.specs.Contract.{withData};
 
@@ -13,6 +13,9 @@ pub const START: u8 = 253;
 
 // The last byte of a frame.
 pub const END: u8 = 254;
+
+// The info of kind 0 in a frame without a CRC; with one it is 8 more.
+pub const INFO: u8 = 4;
 
 // Whether an address, a number or a port is allowed.
 pub fn plain_ok(b: u8) -> bool
@@ -60,13 +63,6 @@ pub fn info_ok(info: u8) -> bool
 {
     let high = info / 4;
     high == 1 || high == 3
-}
-
-// The info byte of kind 0, to which the kind is added.
-pub fn info_base(crc: bool) -> u8
-    ensures { λ r. ⌜ r ≡ infoBase crc ⌝ }
-{
-    if crc { 12 } else { 4 }
 }
 
 // How many bytes a trailer has.

@@ -4,9 +4,10 @@ use super::fields;
 use framing::Answer;
 use framing::refusal;
 ghost use mathlib.Core.Path.{_≡_};
+ghost use mathlib.Core.Bool.{true, false};
 ghost use mathlib.Core.List.{[], _∷_, _++_};
 ghost use Prim.Native.Nat.{_+_, _-_, _≤_, _<_};
-ghost use lib.ListN.{length, take, drop};
+ghost use lib.ListN.{length, take, drop, getD};
 ghost use lib.Seq.{sets};
 ghost use Rattle.framing.specs.Answer.{outcomeOf};
 ghost use Rattle.framing.specs.Writer.{writes};
@@ -14,6 +15,7 @@ ghost use Rattle.packing.specs.Packed.{packedLength};
 ghost use Rattle.checksum.specs.Sum.{totalOf};
 ghost use Rattle.pcs.specs.Frame.{ok, header, crcBytes, trailer, trailing, frame};
 ghost use Rattle.pcs.specs.Contract.{withData};
+ghost use Rattle.pcs.specs.Steps.{withCrc, crcMarked};
 
 // Whether a message may be sent.
 fn may_send(message: Message, data: &[u8]) -> bool
@@ -24,14 +26,14 @@ fn may_send(message: Message, data: &[u8]) -> bool
         && data.len() <= 1024
 }
 
-// Stores the start mark and the header of a message with so many packed bytes.
+// Stores the start mark and the header of a message with so many packed bytes, as it is without a CRC.
 fn put_header(message: Message, packed: usize, out: &mut [u8])
     requires { ⌜ (message .kind ≤ 3) × (packed < 16384) × (9 ≤ length (now out)) ⌝ }
-    ensures { λ r. ⌜ now (out .exit) ≡ sets (now (out .entry)) 0 (253 ∷ header (withData message []) packed) ⌝ }
+    ensures { λ r. ⌜ now (out .exit) ≡ sets (now (out .entry)) 0 (253 ∷ header (withCrc false (withData message [])) packed) ⌝ }
 {
     let high = packing::sent_as((packed / 128) as u8);
     let low = packing::sent_as((packed % 128) as u8);
-    let info = fields::info_base(message.crc) + message.kind;
+    let info = fields::INFO + message.kind;
     out[0] = fields::START;
     out[1] = message.receiver;
     out[2] = message.sender;
@@ -57,24 +59,33 @@ fn put_crc(out: &mut [u8], at: usize, value: u16)
     out[at + 3] = fields::END;
 }
 
-// Stores the trailer of the body, which stands behind the start mark up to a place and has this total, and the end mark from that place on.
-fn put_end(out: &mut [u8], at: usize, crc: bool, total: u8)
-    requires { ⌜ (1 ≤ at) × (at + trailing crc < length (now out)) × (total ≡ totalOf (take (at - 1) (drop 1 (now out)))) ⌝ }
+// Stores the sum of the body, which stands behind the start mark up to a place and has this total, and the end mark from that place on.
+fn put_end(out: &mut [u8], at: usize, total: u8)
+    requires { ⌜ (1 ≤ at) × (at + 1 < length (now out)) × (total ≡ totalOf (take (at - 1) (drop 1 (now out)))) ⌝ }
     ensures { λ r. ⌜ now (out .exit)
-        ≡ sets (now (out .entry)) at (trailer crc (take (at - 1) (drop 1 (now (out .entry)))) ++ (254 ∷ [])) ⌝ }
+        ≡ sets (now (out .entry)) at (trailer false (take (at - 1) (drop 1 (now (out .entry)))) ++ (254 ∷ [])) ⌝ }
 {
     let sum = checksum::sum_of_total(total);
-    if crc {
-        let value = checksum::crc16(0, &out[1..at]);
-        out[at] = sum;
-        put_crc(out, at + 1, value);
-    } else {
-        out[at] = sum;
-        out[at + 1] = fields::END;
-    }
+    out[at] = sum;
+    out[at + 1] = fields::END;
 }
 
-// Stores a frame at the start, with so many packed bytes.
+// Makes the header that of a frame with a CRC, and stores the sum, the CRC and the end mark from a place on.
+fn put_crc_end(out: &mut [u8], at: usize)
+    requires { ⌜ (4 ≤ at) × (at + 4 < length (now out)) × (getD (now out) 3 0 ≤ 247) ⌝ }
+    ensures { λ r. ⌜ now (out .exit)
+        ≡ sets (crcMarked (now (out .entry))) at
+        (trailer true (take (at - 1) (drop 1 (crcMarked (now (out .entry))))) ++ (254 ∷ [])) ⌝ }
+{
+    let info = out[3] + 8;
+    out[3] = info;
+    let sum = checksum::sum(&out[1..at]);
+    let value = checksum::crc16(0, &out[1..at]);
+    out[at] = sum;
+    put_crc(out, at + 1, value);
+}
+
+// Stores a frame at the start, with so many packed bytes. What a CRC changes is stored last, so that a frame without one does not pay for it.
 fn put_frame(message: Message, data: &[u8], packed: usize, out: &mut [u8])
     requires { ⌜ (message .kind ≤ 3) × (length (now «data») ≤ 1024)
         × (packed ≡ packedLength (length (now «data»))) × (10 + packed + trailing (message .crc) ≤ length (now out)) ⌝ }
@@ -83,7 +94,12 @@ fn put_frame(message: Message, data: &[u8], packed: usize, out: &mut [u8])
     put_header(message, packed, out);
     let head = runs::total(0, &out[1..9]);
     let total = packing::pack_summed(head, data, out, 9);
-    put_end(out, 9 + packed, message.crc, total);
+    let end = 9 + packed;
+    if message.crc {
+        put_crc_end(out, end);
+    } else {
+        put_end(out, end, total);
+    }
 }
 
 // Writes the frame of a message at the start of the lent memory, and answers its length. The room of a CRC is a test of its own, which
