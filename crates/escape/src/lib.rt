@@ -115,13 +115,6 @@ fn length_by(escapes: Escapes, bytes: &[u8]) -> usize
     n
 }
 
-// Whether so many bytes fit at a place of a memory.
-fn fits(at: usize, size: usize, memory: usize) -> bool
-    ensures { λ r. ⌜ r ≡ leb (at + size) memory ⌝ }
-{
-    at <= memory && size <= memory - at
-}
-
 // Whether a run of bytes, hidden, fits at a place of a memory. Where two wire bytes for each fit, they need not be counted.
 fn has_room(escapes: Escapes, bytes: &[u8], at: usize, memory: usize) -> bool
     ensures { λ r. ⌜ r ≡ leb (at + length (each (runOf escapes) (now (bytes .entry)))) memory ⌝ }
@@ -130,7 +123,7 @@ fn has_room(escapes: Escapes, bytes: &[u8], at: usize, memory: usize) -> bool
         true
     } else {
         let size = length_by(escapes, bytes);
-        fits(at, size, memory)
+        runs::fits(at, size, memory)
     }
 }
 

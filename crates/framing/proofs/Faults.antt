@@ -31,27 +31,27 @@ module _ {M : Type 0} (ok : M → Bool) (frame : M → List ℕ) (m : M) (memory
       go true k = absurd (h (told true true o k))
       go false k = told true false o k
 
-  pub early-refused : (n ≡ 0 → ⊥) → (refused n, memory) ≡ writes ok frame m memory
-  early-refused h =
+  pub least-refused : (n ≡ 0 → ⊥) → (refused n, memory) ≡ writes ok frame m memory
+  least-refused h =
       by-writer ok frame m memory (λ w. (refused n, memory) ≡ w) (λ o. ap (λ (k : ℕ). (refused k, memory)) (told false _ o refl))
       (λ o _. ap (λ (k : ℕ). (refused k, memory)) (short o h)) (λ o f. absurd (h (told true true o (le-leb least (length memory) (omega arith)))))
 
-  pub early-passed : n ≡ 0 → (ok m ≡ true) × (least ≤ length memory)
-  early-passed h =
+  pub least-passed : n ≡ 0 → (ok m ≡ true) × (least ≤ length memory)
+  least-passed h =
       let f = none-fires ((not sendable, 3) ∷ (not (leb least (length memory)), 2) ∷ []) refl (sym e ∙ h) in
       (sym s ∙ not-false _ (f .0), leb-true _ _ (not-false _ (f .1 .0)))
 
 -- by the length of its frame itself
-module _ {M : Type 0} (ok : M → Bool) (frame : M → List ℕ) (m : M) (memory : List ℕ) (sendable : Bool) (total n : ℕ) (s : sendable ≡ ok m)
-    (t : total ≡ length (frame m)) (e : n ≡ writeFault sendable (leb total (length memory))) where
+module _ {M : Type 0} (ok : M → Bool) (frame : M → List ℕ) (m : M) (memory : List ℕ) (sendable : Bool) (size n : ℕ) (s : sendable ≡ ok m)
+    (t : size ≡ length (frame m)) (e : n ≡ writeFault sendable (leb size (length memory))) where
   pub write-refused : (n ≡ 0 → ⊥) → (refused n, memory) ≡ writes ok frame m memory
-  write-refused = early-refused ok frame m memory sendable total n s (omega (arith, t)) e
+  write-refused = least-refused ok frame m memory sendable size n s (omega (arith, t)) e
 
-  pub write-taken : n ≡ 0 → (ok m ≡ true) × (total ≤ length memory)
-  write-taken = early-passed ok frame m memory sendable total n s (omega (arith, t)) e
+  pub write-taken : n ≡ 0 → (ok m ≡ true) × (size ≤ length memory)
+  write-taken = least-passed ok frame m memory sendable size n s (omega (arith, t)) e
 
-  pub write-done : (after : List ℕ) → n ≡ 0 → after ≡ sets memory 0 (frame m) → (done total, after) ≡ writes ok frame m memory
-  write-done after h a = writes-done ok frame m memory after total (write-taken h .0) t (write-taken h .1) a
+  pub write-done : (after : List ℕ) → n ≡ 0 → after ≡ sets memory 0 (frame m) → (done size, after) ≡ writes ok frame m memory
+  write-done after h a = writes-done ok frame m memory after size (write-taken h .0) t (write-taken h .1) a
 
 -- n: what a receiver was told of a call, by a test of its state
 module _ (L : Link) (c : Lent L) (piece : List ℕ) (known : Bool) (n : ℕ) (k : known ≡ L .known (c .0)) (e : n ≡ callFault known (leb (L .size) (length (c .1)))) where

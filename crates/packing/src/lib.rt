@@ -74,7 +74,7 @@ fn pack_group(start: u8, g: &[u8], out: &mut [u8], at: usize) -> u8
 }
 
 // Stores the data, packed, from place at on: all groups but the last, in a loop where the compiler knows their size, then the last one.
-// A total is carried on over what is stored; the bytes of the last group are added before they are stored, so that short data are not read back.
+// A total is carried on over what is stored. That of the last group is not read back from memory, which is slow just after a store.
 fn pack_all(start: u8, data: &[u8], out: &mut [u8], at: usize) -> u8
     requires { ⌜ at + packedLength (length (now «data»)) ≤ length (now out) ⌝ }
     ensures total { λ r. ⌜ r ≡ totalFrom start (packed (now («data» .entry))) ⌝ }
@@ -108,7 +108,7 @@ pub fn packed_length(data: &[u8]) -> usize
 fn has_room(data: &[u8], size: usize, at: usize) -> bool
     ensures { λ r. ⌜ r ≡ leb (at + packedLength (length (now («data» .entry)))) size ⌝ }
 {
-    at <= size && packed_length(data) <= size - at
+    runs::fits(at, packed_length(data), size)
 }
 
 // Packs the data into out from place at on and answers the count of bytes. Where they do not fit nothing is written.

@@ -22,11 +22,11 @@ use Rattle.pcs.specs.declared.Message.{Message}
 use Rattle.pcs.specs.declared.Stepped.{Stepped}
 use Rattle.framing.specs.declared.Reached.{Reached}
 
--- a message with another choice
+-- a message with this choice of a CRC
 abbrev pub withCrc : Bool → Frame.Message → Frame.Message
 withCrc crc m = Frame.withFields (m .receiver) (m .sender) (m .kind) (m .number) (m .sender-port) (m .receiver-port) crc (m .payload)
 
--- memory that begins with the header of a frame, whose info has become that of a frame with a CRC
+-- memory that begins with a frame, whose info has become that of a frame with a CRC
 abbrev pub crcMarked : List ℕ → List ℕ
 crcMarked memory = set memory 3 (getD memory 3 0 + 8)
 

@@ -94,11 +94,11 @@ fn put_frame(message: Message, data: &[u8], packed: usize, out: &mut [u8])
     put_header(message, packed, out);
     let head = runs::total(0, &out[1..9]);
     let total = packing::pack_summed(head, data, out, 9);
-    let end = 9 + packed;
+    let at = 9 + packed;
     if message.crc {
-        put_crc_end(out, end);
+        put_crc_end(out, at);
     } else {
-        put_end(out, end, total);
+        put_end(out, at, total);
     }
 }
 

@@ -1,8 +1,9 @@
 // Runs of bytes, for every crate above: definitions in specs/, laws in proofs/, and here numbers of up to four bytes, low byte first, read from and
-// stored in slices, the bytes of a run before the first mark, and the total of a run. No function asks anything of its caller: bytes that are not there are not read,
-// and places that are not there not stored to.
+// stored in slices, the bytes of a run before the first mark, and the total of a run. No function asks anything of its caller: bytes that are not
+// there are not read, and places that are not there not stored to.
 ghost use mathlib.Core.Path.{_≡_};
-ghost use Prim.Native.Nat.{_-_, _≤_, min};
+ghost use Prim.Native.Nat.{_+_, _-_, _≤_, min};
+ghost use lib.Dec.{leb};
 ghost use lib.ListN.{length, take, drop};
 ghost use lib.Seq.{sets};
 ghost use Rattle.runs.specs.Runs.{between, before};
@@ -21,6 +22,13 @@ fn left(n: usize, at: usize) -> usize
     ensures { λ r. ⌜ r ≡ n - at ⌝ }
 {
     if at < n { n - at } else { 0 }
+}
+
+// Whether so many bytes fit at a place of a memory.
+pub fn fits(at: usize, size: usize, memory: usize) -> bool
+    ensures { λ r. ⌜ r ≡ leb (at + size) memory ⌝ }
+{
+    at <= memory && size <= memory - at
 }
 
 // The number that the bytes from a place stand for, at most size of them and at most four.

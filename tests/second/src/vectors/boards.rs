@@ -77,7 +77,10 @@ fn written(s: &mut Section) {
         s.write(&seven(numbers, true), given(data), exact);
         s.read_back::<Pcs>();
         s.whole_given::<Pcs>(&s.frame.clone(), Pcs::SIZE);
-        s.write(&seven(numbers, true), given(data), exact - 1);
+        // Room for all but a byte of the CRC, for the frame without one, and for less than that.
+        for room in [exact - 1, exact - 3, exact - 4] {
+            s.write(&seven(numbers, true), given(data), room);
+        }
     }
     s.whole::<Pcs>();
     // 01's size is too short now, for a frame without CRC too.
@@ -93,6 +96,7 @@ fn written(s: &mut Section) {
     for numbers in UNSENDABLE {
         s.write(&seven(numbers, true), given(b""), 0);
     }
+    s.write(&seven(UNSENDABLE[0], true), given(b""), 12);
     s.write(&[1, 1, 2, 1, 1, 1, 1], given(&[7]), 20);
     s.write(&[1, 1, 3, 1, 1, 1, 1], given(&[7]), 20);
     s.write(&[1, 1, 3, 1, 1, 1, 1], given(b""), 20);

@@ -6,7 +6,7 @@ use native.Mathlib.Omega.{arith}
 use lib.ListN.{length}
 use borrow.Author.Needs.{needs}
 use borrow.Author.Tests.{ltb-true, ltb-false}
-use Rattle.framing.proofs.Faults.{early-refused, early-passed}
+use Rattle.framing.proofs.Faults.{least-refused, least-passed}
 use Rattle.framing.proofs.Stored.{writes-done, writes-short}
 use Rattle.pcs.specs.Frame.{Message, ok, trailing, frame}
 use Rattle.pcs.specs.Contract.{withData}
@@ -38,12 +38,12 @@ module _ (c : tie.After-write-fault) where
   least = omega (arith, counted, trailing-range (S .args .message .crc) .0)
 
   passed : c .write-fault .result ≡ 0 → (ok M ≡ true) × (11 + P .packed-length .result ≤ Room)
-  passed = early-passed ok frame M (S .args .out .now) _ _ _ (c .before .may-send .ensures) least (c .write-fault .ensures)
+  passed = least-passed ok frame M (S .args .out .now) _ _ _ (c .before .may-send .ensures) least (c .write-fault .ensures)
 
 returns : tie.Need-returns
 returns c =
     let w = c .before in
-    early-refused ok frame (M w) (S w .args .out .now) _ _ _ (w .before .may-send .ensures) (least w) (w .write-fault .ensures) (c .if1 .taken)
+    least-refused ok frame (M w) (S w .args .out .now) _ _ _ (w .before .may-send .ensures) (least w) (w .write-fault .ensures) (c .if1 .taken)
 
 sub-if3 : tie.Need-sub-if3
 sub-if3 c = omega (arith, passed (c .before .before) (c .before .if1 .left) .1)

@@ -4,8 +4,8 @@ use mathlib.Core.Path.{_≡_, refl, sym}
 use mathlib.Core.Bool.{Bool, true, false}
 use lib.Dec.{leb}
 use borrow.Author.Tests.{le-leb, lt-leb, leb-true}
-use Rattle.escape.proofs.fits.Statement.{statement}
-use Rattle.escape.proofs.fits.Tie as tie
+use Rattle.runs.proofs.fits.Statement.{statement}
+use Rattle.runs.proofs.fits.Tie as tie
 
 same-test : (a b : Bool) → (a ≡ true → b ≡ true) → (b ≡ true → a ≡ true) → a ≡ b
 same-test true b h k = sym (h refl)
