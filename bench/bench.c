@@ -19,7 +19,7 @@ const struct side linebox = {"linebox", bench_crc16, bench_crc32, bench_sum, ben
 
 static uint32_t zlib_crc32(const uint8_t *p, size_t n) { return (uint32_t)crc32(0, p, (uInt)n); }
 static const struct side zlib = {.way = "zlib", .crc32 = zlib_crc32};
-static const char *const ways[WAYS - 1] = {"bits", "table", "slices", "bytewise", "words", "plain_write", "runs_write", "plain_read", "runs_read"};
+static const char *const ways[WAYS - 1] = {"masks", "bits", "halves", "table", "slices", "bytewise", "words", "plain_write", "runs_write", "plain_read", "runs_read"};
 const struct side *opponents[WAYS][COMPILERS] = {[WAYS - 1] = {0, &zlib}};
 
 uint8_t out[4096], store[2048];
@@ -72,6 +72,8 @@ static uint64_t next(void) { state ^= state << 13; state ^= state >> 7; state ^=
 enum { INPUTS = 32, LONGEST = 2100, ANY = -1, NOISE = 65536 };
 /* The run that is given in blocks: so long that its calls are not stepped through, which would count the first of them alone. */
 enum { BODY = 8192 };
+/* The most bytes of a frame that a 16-bit check covers: those of the longest PCS frame. */
+enum { COVERED = 1179 };
 static uint8_t memory[INPUTS][LONGEST];
 static struct input inputs[INPUTS];
 
@@ -153,13 +155,16 @@ static void blocks_row(const char *name, size_t of) {
     measure(name, &blocks_work, &(struct input){run, BODY}, 1);
 }
 
+/* The 32-bit check takes long runs, of 96 bytes and more, in another way. */
 static void values(void) {
-    static const size_t sizes[] = {4, 16, 64, 95, 96, 256, 1024};
-    for (size_t i = 0; i < sizeof sizes / sizeof *sizes; i++) row("CRC-16", &crc16_work, sizes[i], ANY);
+    static const size_t sizes16[] = {1, 2, 4, 16, 64, 256, 1024}, sizes32[] = {4, 16, 64, 95, 96, 256, 1024};
+    for (size_t i = 0; i < sizeof sizes16 / sizeof *sizes16; i++) row("CRC-16", &crc16_work, sizes16[i], ANY);
+    payloads(COVERED, ANY);
+    at_each_length(&crc16_work, inputs, COVERED);
     blocks_row("CRC-16 in blocks of 64", 64);
     blocks_row("CRC-16 in blocks of 256", 256);
     blocks_row("CRC-16 in blocks of 1024", 1024);
-    for (size_t i = 0; i < sizeof sizes / sizeof *sizes; i++) row("CRC-32", &crc32_work, sizes[i], ANY);
+    for (size_t i = 0; i < sizeof sizes32 / sizeof *sizes32; i++) row("CRC-32", &crc32_work, sizes32[i], ANY);
     for (size_t n = 16; n <= 1024; n *= 8) row("PCS sum", &sum_work, n, ANY);
     for (size_t n = 16; n <= 1024; n *= 8) row("PCS packing", &pack_work, n, ANY);
     for (size_t n = 16; n <= 1024; n *= 8) row_of("PCS unpacking", &unpack_work, &pack_work, n, ANY);

@@ -1,6 +1,25 @@
-/* Both CRCs in C: bit by bit, by a table of 256 entries, and eight bytes at a time by eight tables (slicing by 8). */
+/* Both CRCs in C: bit by bit, by a mask and by a condition; by a table of 256 entries; and eight bytes at a time by eight tables (slicing by 8). The
+ * 16-bit one also from sixteen constants, four bits at a time, as linebox has it. */
 #include "parts.h"
 
+uint16_t crc16_masks(uint16_t c, const uint8_t *p, size_t n) {
+    for (size_t i = 0; i < n; i++) {
+        c ^= p[i];
+        for (int k = 0; k < 8; k++) c = c >> 1 ^ (-(c & 1) & 0xA001);
+    }
+    return c;
+}
+
+uint32_t crc32_masks(const uint8_t *p, size_t n) {
+    uint32_t c = 0xFFFFFFFFu;
+    for (size_t i = 0; i < n; i++) {
+        c ^= p[i];
+        for (int k = 0; k < 8; k++) c = c >> 1 ^ (-(c & 1) & 0xEDB88320u);
+    }
+    return ~c;
+}
+
+/* clang 22 knows these two loops for CRCs, and makes of each a table of 256 entries. */
 uint16_t crc16_bits(uint16_t c, const uint8_t *p, size_t n) {
     for (size_t i = 0; i < n; i++) {
         c ^= p[i];
@@ -16,6 +35,18 @@ uint32_t crc32_bits(const uint8_t *p, size_t n) {
         for (int k = 0; k < 8; k++) c = c & 1 ? (c >> 1) ^ 0xEDB88320u : c >> 1;
     }
     return ~c;
+}
+
+static const uint16_t constants16[16] = {0x0000, 0xCC01, 0xD801, 0x1400, 0xF001, 0x3C00, 0x2800, 0xE401,
+                                         0xA001, 0x6C00, 0x7800, 0xB401, 0x5000, 0x9C01, 0x8801, 0x4400};
+
+uint16_t crc16_halves(uint16_t c, const uint8_t *p, size_t n) {
+    for (size_t i = 0; i < n; i++) {
+        c ^= p[i];
+        c = constants16[c & 15] ^ c >> 4;
+        c = constants16[c & 15] ^ c >> 4;
+    }
+    return c;
 }
 
 /* The table of 256 entries, and behind it row k: a byte with k + 1 bytes of 0 after it. They stand ready before main. */
@@ -73,6 +104,8 @@ uint32_t crc32_slices(uint32_t c, const uint8_t *p, size_t n) {
 uint32_t crc32_by_table(const uint8_t *p, size_t n) { return ~crc32_table(0xFFFFFFFFu, p, n); }
 uint32_t crc32_by_slices(const uint8_t *p, size_t n) { return ~crc32_slices(0xFFFFFFFFu, p, n); }
 
-SIDE bits = {.way = "bit by bit", .crc16 = crc16_bits, .crc32 = crc32_bits};
+SIDE masks = {.way = "bit by bit, mask", .crc16 = crc16_masks, .crc32 = crc32_masks};
+SIDE bits = {.way = "bit by bit, condition", .crc16 = crc16_bits, .crc32 = crc32_bits};
+SIDE halves = {.way = "sixteen constants", .crc16 = crc16_halves};
 SIDE table = {.way = "table of 256", .crc16 = crc16_table, .crc32 = crc32_by_table};
 SIDE slices = {.way = "slicing by 8", .crc16 = crc16_slices, .crc32 = crc32_by_slices};

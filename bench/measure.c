@@ -34,7 +34,7 @@ void agree(const struct work *w, const struct input *in, size_t count) {
 
 /* The calls stand so many bytes lower on the stack than another round's: where a stack lies beside the data tells in some calls' time. */
 __attribute__((noinline))
-static double batch(const struct work *w, const struct side *s, const struct input *in, size_t count, size_t times, size_t lower) {
+double batch(const struct work *w, const struct side *s, const struct input *in, size_t count, size_t times, size_t lower) {
     volatile uint8_t *gap = __builtin_alloca(lower + 1);
     gap[0] = 0;
     double t = now();
@@ -43,7 +43,7 @@ static double batch(const struct work *w, const struct side *s, const struct inp
     return (now() - t) / (double)(times * count);
 }
 
-static int by_size(const void *a, const void *b) { double x = *(const double *)a, y = *(const double *)b; return (x > y) - (x < y); }
+int by_size(const void *a, const void *b) { double x = *(const double *)a, y = *(const double *)b; return (x > y) - (x < y); }
 
 /* The middle of the values, and the bounds of their middle half. */
 static struct spread spread(double *v) {

@@ -16,10 +16,16 @@ struct work {
 extern uint8_t out[4096], store[2048];
 
 /* The opponents by their ways, each by two compilers; zlib is Debian's, and stands in the second place alone. */
-enum { WAYS = 10, COMPILERS = 2 };
+enum { WAYS = 12, COMPILERS = 2 };
 extern const struct side linebox, *opponents[WAYS][COMPILERS];
 
 void agree(const struct work *work, const struct input *inputs, size_t count);
+double batch(const struct work *work, const struct side *side, const struct input *inputs, size_t count, size_t times, size_t lower);
+int by_size(const void *a, const void *b);
 void measure(const char *name, const struct work *work, const struct input *inputs, size_t count);
 void print_tables(void);
+
+/* At every length of the inputs up to the longest: of each opponent how often linebox is behind, and where most. */
+void at_each_length(const struct work *work, struct input *inputs, size_t longest);
+void print_each_length(void);
 #endif

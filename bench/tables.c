@@ -95,5 +95,6 @@ static void print_stack(void) {
 
 void print_tables(void) {
     print_rows();
+    print_each_length();
     print_stack();
 }

@@ -601,6 +601,24 @@ static void check_value(void) {
         }
 }
 
+/* one byte, whatever it is, from every value that can be reached: the rule bit by bit. What longer runs give is one byte after the other */
+static void check_value_of_each_byte(void) {
+    unsigned wrong = 0;
+    for (unsigned start = 0; start <= 0xFFFF; start++)
+        for (unsigned b = 0; b <= 0xFF; b++) {
+            unsigned register16 = start ^ b;
+            for (int bit = 0; bit < 8; bit++) register16 = register16 & 1 ? register16 >> 1 ^ 0xA001 : register16 >> 1;
+            uint8_t byte = CAST(uint8_t, b);
+            wrong += linebox_crc16(CAST(uint16_t, start), &byte, 1) != register16;
+        }
+    CHECK(wrong == 0);
+    uint16_t value = 0x1234;
+    for (size_t i = 0; i < 1025; i++) {
+        CHECK(linebox_crc16(0x1234, data, i) == value);
+        value = linebox_crc16(value, data + i, 1);
+    }
+}
+
 /* the loop of the header: a file with the longest body of an MDU frame, read in blocks, has the value that the frame carries */
 static void check_value_by_blocks(void) {
     FILE *file = tmpfile();
@@ -645,6 +663,7 @@ int main(void) {
     longest_frames();
     left_in_the_store();
     check_value();
+    check_value_of_each_byte();
     check_value_by_blocks();
     if (failures) {
         printf("%d failed\n", failures);

@@ -1,5 +1,5 @@
--- The tables' rule, and bits that leave a register by it. A row is made by doubling: with a bit on top, each entry is xored with that bit's own.
--- A proof that cites `laid-out` with `refl` has each entry of the source's constant computed and compared.
+-- The tables' rules, and bits that leave a register by them. A row is made by doubling: with a bit on top, each entry is xored with that bit's own.
+-- A proof that cites `row-out` or `laid-out` with `refl` has each entry of the source's constant computed and compared.
 use mathlib.Core.Path.{_≡_, refl, ap, ap₂, sym, _∙_, subst}
 use mathlib.Core.Bool.{Bool, true, false}
 use mathlib.Core.List.{List, [], _∷_, _++_, map}
@@ -73,6 +73,10 @@ row-at p n zero y h =
     let none : y ≡ 0 = omega (arith, h) in
     rw none (sym (shifts-none p n))
 row-at p n (suc w) y h = row-next p n w (row (bases p n w)) (row-length p n w) (λ z k. row-at p n w z k) y h
+
+-- a table of one row
+pub row-out : (p w n : ℕ) {t : List ℕ} → t ≡ row (bases p n w) → (y : ℕ) → y < 2 ^ w → getD t y 0 ≡ shifts p n y
+row-out p w n e y h = ap (λ (l : List ℕ). getD l y 0) e ∙ row-at p n w y h
 
 laid-rows : (p w k n : ℕ) → Rows p w k n (laid p w k n)
 unfolding laid Rows

@@ -1,10 +1,9 @@
-// The check values of the links: the CRC of MDU and PCS and that of the expansion link, by tables, and the sum of PCS.
+// The check values of the links: the CRC of MDU and PCS from sixteen constants, that of the expansion link by tables, and the sum of PCS.
 mod braid_table;
 mod table;
 
-use braid_table::BRAID16;
 use braid_table::BRAID32;
-use table::NIBBLES16;
+use table::CONSTANTS16;
 use table::NIBBLES32;
 ghost use mathlib.Core.Path.{_≡_};
 ghost use mathlib.Core.List.{_++_};
@@ -13,32 +12,65 @@ ghost use lib.ListN.{length, take, drop};
 ghost use Rattle.runs.specs.Number.{littleEndian};
 ghost use Rattle.packing.specs.Seven.{sent};
 ghost use Rattle.checksum.specs.Crc.{shifts, run, crc16From, crc32Of};
-ghost use Rattle.checksum.specs.Tables.{NibbleTable, BraidTable, AfterBytes, AfterWords};
+ghost use Rattle.checksum.specs.Tables.{SixteenConstants, NibbleTable, BraidTable, AfterBytes, AfterWords};
 ghost use Rattle.checksum.specs.Braids.{registersOf, StandsFor, Braided};
 ghost use Rattle.checksum.specs.Sum.{lowered, sumOf};
 
+// The constants of the 16-bit CRC, to be laid out once a call and lent: a constant is copied at each use.
+fn table16() -> [u16; 16]
+    ensures { λ r. ⌜ SixteenConstants 0xA001 r ⌝ }
+{
+    CONSTANTS16
+}
+
+// Four bits leave the register of the 16-bit CRC.
+fn shift4(table: &[u16; 16], c: u16) -> u16
+    ensures { λ r. ⌜ ((p : ℕ) → SixteenConstants p (now (table .entry)) → r ≡ shifts p 4 c) ⌝ }
+{
+    table[(c % 16) as usize] ^ (c / 16)
+}
+
+// Eight bits leave it: the low half of a byte, then the high half.
+fn halves(table: &[u16; 16], c: u16) -> u16
+    ensures { λ r. ⌜ ((p : ℕ) → SixteenConstants p (now (table .entry)) → r ≡ shifts p 8 c) ⌝ }
+{
+    let high = shift4(table, c);
+    shift4(table, high)
+}
+
+// A byte as a number of 16 bits.
+fn wide16(b: u8) -> u16
+    ensures { λ r. ⌜ r ≡ b ⌝ }
+{
+    b as u16
+}
+
+// The 16-bit CRC of these bytes, from a start: 0 on MDU and PCS, or the value that the bytes before them have reached.
+pub fn crc16(start: u16, bytes: &[u8]) -> u16
+    ensures { λ r. ⌜ r ≡ crc16From start (now (bytes .entry)) ⌝ }
+{
+    // For an empty run nothing is laid out.
+    if bytes.len() == 0 {
+        return start;
+    }
+    let table = table16();
+    let mut value = start;
+    let mut i = 0;
+    while i < bytes.len() {
+        value = halves(&table, value ^ wide16(bytes[i]));
+        i += 1;
+    }
+    value
+}
+
 // From so many bytes on, a table for long runs is worth its laying out.
 const LONG: usize = 96;
-
-// The table of the 16-bit CRC, to be laid out once a call and lent: a constant is copied at each use.
-fn table16() -> [u32; 128]
-    ensures { λ r. ⌜ NibbleTable 0xA001 r ⌝ }
-{
-    NIBBLES16
-}
 
 // The table of the CRC of the expansion link.
 fn table32() -> [u32; 128]
     ensures { λ r. ⌜ NibbleTable 0xEDB8_8320 r ⌝ }
 {
     NIBBLES32
-}
-
-// The table of the 16-bit CRC for long runs.
-fn braid16() -> [u32; 1024]
-    ensures { λ r. ⌜ BraidTable 0xA001 r ⌝ }
-{
-    BRAID16
 }
 
 // The table of the CRC of the expansion link for long runs.
@@ -229,19 +261,7 @@ fn after_long(table: &[u32; 128], long: &[u32; 1024], start: u32, bytes: &[u8]) 
     after(table, c, &rest[24..])
 }
 
-// The register of the 16-bit CRC after the bytes. A part is handed on, since the slice itself would be copied for short runs too.
-fn after16(table: &[u32; 128], start: u32, bytes: &[u8]) -> u32
-    ensures { λ r. ⌜ (NibbleTable 0xA001 (now (table .entry)) → r ≡ run 0xA001 start (now (bytes .entry))) ⌝ }
-{
-    if bytes.len() < LONG {
-        after(table, start, bytes)
-    } else {
-        let long = braid16();
-        after_long(table, &long, start, &bytes[0..])
-    }
-}
-
-// The register of the CRC of the expansion link after the bytes.
+// The register of the CRC of the expansion link after the bytes. A part is handed on, since the slice itself would be copied for short runs too.
 fn after32(table: &[u32; 128], start: u32, bytes: &[u8]) -> u32
     ensures { λ r. ⌜ (NibbleTable 0xEDB8_8320 (now (table .entry)) → r ≡ run 0xEDB8_8320 start (now (bytes .entry))) ⌝ }
 {
@@ -251,14 +271,6 @@ fn after32(table: &[u32; 128], start: u32, bytes: &[u8]) -> u32
         let long = braid32();
         after_long(table, &long, start, &bytes[0..])
     }
-}
-
-// The 16-bit CRC of these bytes, from a start: 0 on MDU and PCS, or the value that the bytes before them have reached.
-pub fn crc16(start: u16, bytes: &[u8]) -> u16
-    ensures { λ r. ⌜ r ≡ crc16From start (now (bytes .entry)) ⌝ }
-{
-    let table = table16();
-    after16(&table, start as u32, bytes) as u16
 }
 
 // The CRC of the expansion link, of these bytes.

@@ -513,6 +513,18 @@ mod tests {
         [before, &last].concat()
     }
 
+    /// The 16-bit check four bits at a time, so many times a byte; where the four are 13, these bits are wrong in what they lead to.
+    fn by_halves(start: u16, bytes: &[u8], steps: usize, wrong: u16) -> u16 {
+        let four_leave = |c: u16| (0..4).fold(c, |c, _| if c & 1 == 1 { c >> 1 ^ 0xA001 } else { c >> 1 });
+        let step = |c: u16| if c & 15 == 13 { four_leave(c) ^ wrong } else { four_leave(c) };
+        bytes.iter().fold(start, |c, byte| (0..steps).fold(c ^ u16::from(*byte), |c, _| step(c)))
+    }
+
+    #[test]
+    fn two_steps_a_byte_are_the_check() {
+        assert_eq!(by_halves(0x1234, b"123456789", 2, 0), Own.crc16(0x1234, b"123456789"));
+    }
+
     impl Wrong {
         /// Answers of a reader that mistakes the rules of frames with CRC.
         fn pcs_answer(&self, frame: &[u8], answer: u64) -> u64 {
@@ -612,6 +624,9 @@ mod tests {
                 11 => Own.crc16(0, bytes) ^ start, // the start xored in at the end
                 12 if bytes.is_empty() => 0,
                 13 if bytes.len() >= 96 => Own.crc16(start & 0xFF, bytes),
+                30 => Own.crc16(start, &bytes.iter().map(|byte| byte.rotate_left(4)).collect::<Vec<u8>>()), // high half first
+                31 => by_halves(start, bytes, 1, 0),                                                         // one step a byte
+                32 => by_halves(start, bytes, 2, 1),                                                         // one constant wrong
                 _ => Own.crc16(start, bytes),
             }
         }
@@ -619,7 +634,7 @@ mod tests {
 
     #[test]
     fn each_wrong_answer_is_found() {
-        for wrong in 0..30 {
+        for wrong in 0..33 {
             assert!(compare(&Wrong(wrong), 1, 40_000).is_err(), "wrong answer {wrong} was not found");
         }
         assert!(compare(&Wrong(255), 1, 4000).is_ok());
