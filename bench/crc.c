@@ -2,25 +2,47 @@
  * 16-bit one also from sixteen constants, four bits at a time, as linebox has it. */
 #include "parts.h"
 
-uint16_t crc16_masks(uint16_t c, const uint8_t *p, size_t n) {
+static inline uint32_t bit_by_mask(uint32_t c, uint32_t constant) { return c >> 1 ^ (-(c & 1) & constant); }
+static inline uint32_t bit_by_condition(uint32_t c, uint32_t constant) { return c & 1 ? c >> 1 ^ constant : c >> 1; }
+
+uint16_t crc16_masks(uint16_t start, const uint8_t *p, size_t n) {
+    uint32_t c = start;
     for (size_t i = 0; i < n; i++) {
         c ^= p[i];
-        for (int k = 0; k < 8; k++) c = c >> 1 ^ (-(c & 1) & 0xA001);
+        for (int k = 8; k > 0; k--) c = bit_by_mask(c, 0xA001);
     }
-    return c;
+    return (uint16_t)c;
 }
 
 uint32_t crc32_masks(const uint8_t *p, size_t n) {
     uint32_t c = 0xFFFFFFFFu;
     for (size_t i = 0; i < n; i++) {
         c ^= p[i];
-        for (int k = 0; k < 8; k++) c = c >> 1 ^ (-(c & 1) & 0xEDB88320u);
+        for (int k = 8; k > 0; k--) c = bit_by_mask(c, 0xEDB88320u);
     }
     return ~c;
 }
 
-/* clang 22 knows these two loops for CRCs, and makes of each a table of 256 entries. */
-uint16_t crc16_bits(uint16_t c, const uint8_t *p, size_t n) {
+uint16_t crc16_conditions(uint16_t start, const uint8_t *p, size_t n) {
+    uint32_t c = start;
+    for (size_t i = 0; i < n; i++) {
+        c ^= p[i];
+        for (int k = 8; k > 0; k--) c = bit_by_condition(c, 0xA001);
+    }
+    return (uint16_t)c;
+}
+
+uint32_t crc32_conditions(const uint8_t *p, size_t n) {
+    uint32_t c = 0xFFFFFFFFu;
+    for (size_t i = 0; i < n; i++) {
+        c ^= p[i];
+        for (int k = 8; k > 0; k--) c = bit_by_condition(c, 0xEDB88320u);
+    }
+    return ~c;
+}
+
+/* With the bits counted up, clang 22 knows these loops for CRCs, and makes of each a table of 256 entries. */
+uint16_t crc16_known(uint16_t c, const uint8_t *p, size_t n) {
     for (size_t i = 0; i < n; i++) {
         c ^= p[i];
         for (int k = 0; k < 8; k++) c = c & 1 ? (c >> 1) ^ 0xA001 : c >> 1;
@@ -28,7 +50,7 @@ uint16_t crc16_bits(uint16_t c, const uint8_t *p, size_t n) {
     return c;
 }
 
-uint32_t crc32_bits(const uint8_t *p, size_t n) {
+uint32_t crc32_known(const uint8_t *p, size_t n) {
     uint32_t c = 0xFFFFFFFFu;
     for (size_t i = 0; i < n; i++) {
         c ^= p[i];
@@ -40,13 +62,14 @@ uint32_t crc32_bits(const uint8_t *p, size_t n) {
 static const uint16_t constants16[16] = {0x0000, 0xCC01, 0xD801, 0x1400, 0xF001, 0x3C00, 0x2800, 0xE401,
                                          0xA001, 0x6C00, 0x7800, 0xB401, 0x5000, 0x9C01, 0x8801, 0x4400};
 
-uint16_t crc16_halves(uint16_t c, const uint8_t *p, size_t n) {
+uint16_t crc16_halves(uint16_t start, const uint8_t *p, size_t n) {
+    uint32_t c = start;
     for (size_t i = 0; i < n; i++) {
         c ^= p[i];
         c = constants16[c & 15] ^ c >> 4;
         c = constants16[c & 15] ^ c >> 4;
     }
-    return c;
+    return (uint16_t)c;
 }
 
 /* The table of 256 entries, and behind it row k: a byte with k + 1 bytes of 0 after it. They stand ready before main. */
@@ -105,7 +128,8 @@ uint32_t crc32_by_table(const uint8_t *p, size_t n) { return ~crc32_table(0xFFFF
 uint32_t crc32_by_slices(const uint8_t *p, size_t n) { return ~crc32_slices(0xFFFFFFFFu, p, n); }
 
 SIDE masks = {.way = "bit by bit, mask", .crc16 = crc16_masks, .crc32 = crc32_masks};
-SIDE bits = {.way = "bit by bit, condition", .crc16 = crc16_bits, .crc32 = crc32_bits};
+SIDE conditions = {.way = "bit by bit, condition", .crc16 = crc16_conditions, .crc32 = crc32_conditions};
+SIDE known = {.way = "bit by bit, counting up", .crc16 = crc16_known, .crc32 = crc32_known};
 SIDE halves = {.way = "sixteen constants", .crc16 = crc16_halves};
 SIDE table = {.way = "table of 256", .crc16 = crc16_table, .crc32 = crc32_by_table};
 SIDE slices = {.way = "slicing by 8", .crc16 = crc16_slices, .crc32 = crc32_by_slices};

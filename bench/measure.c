@@ -34,13 +34,30 @@ void agree(const struct work *w, const struct input *in, size_t count) {
 
 /* The calls stand so many bytes lower on the stack than another round's: where a stack lies beside the data tells in some calls' time. */
 __attribute__((noinline))
-double batch(const struct work *w, const struct side *s, const struct input *in, size_t count, size_t times, size_t lower) {
+static double batch(const struct work *w, const struct side *s, const struct input *in, size_t count, size_t times, size_t lower) {
     volatile uint8_t *gap = __builtin_alloca(lower + 1);
     gap[0] = 0;
     double t = now();
     for (size_t i = 0; i < times; i++)
         for (size_t k = 0; k < count; k++) sink += w->run(s, in[k].bytes, in[k].n);
     return (now() - t) / (double)(times * count);
+}
+
+struct sides turns(const struct work *w, const struct input *in, size_t count, int rounds, double *time) {
+    struct sides s = {.n = 1, .side = {&linebox}};
+    for (int i = 0; i < WAYS * COMPILERS; i++) {
+        const struct side *other = opponents[i / COMPILERS][i % COMPILERS];
+        if (other && w->entry(other)) { s.side[s.n] = other; s.place[s.n++] = i; }
+    }
+    double least = 1e9; /* a batch lasts as long as 40 microseconds of linebox's, going by the fastest of a few trials */
+    for (int k = 0; k < 5; k++) { double t = batch(w, &linebox, in, count, 1, 0); if (t < least) least = t; }
+    size_t times = 1 + (size_t)(40000 / (least * (double)count));
+    for (int k = 0; k < rounds; k++)
+        for (int i = 0; i < s.n; i++) {
+            int turn = (i + k) % s.n;
+            time[turn * rounds + k] = batch(w, s.side[turn], in, count, times, (size_t)k * 272 % 4096);
+        }
+    return s;
 }
 
 int by_size(const void *a, const void *b) { double x = *(const double *)a, y = *(const double *)b; return (x > y) - (x < y); }
@@ -60,25 +77,18 @@ static struct steps steps_of(const struct work *w, const struct side *s, struct 
 }
 
 void measure(const char *name, const struct work *w, const struct input *in, size_t count) {
-    static double time[1 + WAYS * COMPILERS][ROUNDS], ratio[ROUNDS];
-    const struct side *sides[1 + WAYS * COMPILERS] = {&linebox};
-    int place[1 + WAYS * COMPILERS] = {0}, n = 1;
+    static double time[SIDES][ROUNDS], ratio[ROUNDS];
     agree(w, in, count);
-    for (int i = 0; i < WAYS * COMPILERS; i++) {
-        const struct side *s = opponents[i / COMPILERS][i % COMPILERS];
-        if (s && w->entry(s)) { sides[n] = s; place[n++] = i; }
-    }
-    size_t times = 1 + (size_t)(40000 / (batch(w, &linebox, in, count, 1, 0) * (double)count));
-    for (int k = 0; k < ROUNDS; k++)
-        for (int i = 0; i < n; i++) { int s = (i + k) % n; time[s][k] = batch(w, sides[s], in, count, times, (size_t)k * 272 % 4096); }
-    struct measured got[1 + WAYS * COMPILERS];
-    for (int s = 0; s < n; s++) {
+    struct sides sides = turns(w, in, count, ROUNDS, time[0]);
+    struct measured got[SIDES];
+    for (int s = 0; s < sides.n; s++) {
         for (int k = 0; k < ROUNDS; k++) ratio[k] = time[s][k] / time[0][k];
         got[s].ratio = spread(ratio);
-        got[s].steps = steps_of(w, sides[s], in[0]);
+        got[s].steps = steps_of(w, sides.side[s], in[0]);
     }
     double bytes = 0, wire = 0;
     for (size_t k = 0; k < count; k++) { bytes += (double)in[k].n; wire += (double)(w->writes ? w->run(&linebox, in[k].bytes, in[k].n) : in[k].n); }
-    for (int s = 0; s < n; s++) got[s].time = spread(time[s]).middle;
-    for (int s = 1; s < n; s++) keep(name, w->name, bytes / (double)count, wire / (double)count, place[s], sides[s]->way, got[0], got[s]);
+    for (int s = 0; s < sides.n; s++) got[s].time = spread(time[s]).middle;
+    for (int s = 1; s < sides.n; s++)
+        keep(name, w->name, bytes / (double)count, wire / (double)count, sides.place[s], sides.side[s]->way, got[0], got[s]);
 }

@@ -1,4 +1,5 @@
-/* Keeps the rows and prints them as docs/BENCH.md has them: those that linebox loses first, the worst above, then the others, then the stack. */
+/* Keeps the rows and prints them as docs/BENCH.md has them: those that linebox loses first, the worst above, then the others, what there is of each
+ * length, then the stack. */
 #include "measure.h"
 #include "row.h"
 #include <stdio.h>

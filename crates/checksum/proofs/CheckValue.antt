@@ -10,7 +10,7 @@ use lib.Dec.{lit<, lit≤}
 use mathlib.Core.Option.{Option, Option·getD}
 use lib.ListN.{length, getD, getElem?}
 use lib.Seq.{ext-getD}
-use Rattle.checksum.specs.Crc.{byteStep, run, crc16Of, crc32Of}
+use Rattle.checksum.specs.Crc.{byteStep, run, crc16From, crc16Of, crc32Of}
 use Rattle.runs.specs.Runs.{Bytes}
 use Rattle.checksum.specs.Claims.{CheckValueLaw, Crc16Detects, Crc32Detects}
 use Rattle.checksum.proofs.Xor.{xor-cancel, xor-cancel-left}
@@ -130,8 +130,11 @@ crc32-detects u v hu hv hl w ne e =
     check-value 4 0xEDB88320 (2 ^ 32 - 1) (lit≤ tt) (lit< tt) (lit< tt) u v hu hv hl w ne (xor-cancel (2 ^ 32 - 1) e)
 
 -- check values fit their width
+pub crc16-from-lt : {start : ℕ} (u : List ℕ) → start < 2 ^ 16 → Bytes u → crc16From start u < 2 ^ 16
+crc16-from-lt u hs hu = run-lt 15 0xA001 (lit≤ tt) (lit≤ tt) (lit< tt) u hs hu
+
 pub crc16-lt : (u : List ℕ) → Bytes u → crc16Of u < 2 ^ 16
-crc16-lt u hu = run-lt 15 0xA001 (lit≤ tt) (lit≤ tt) (lit< tt) u (lit< tt) hu
+crc16-lt u hu = crc16-from-lt u (lit< tt) hu
 
 pub crc32-lt : (u : List ℕ) → Bytes u → crc32Of u < 2 ^ 32
 crc32-lt u hu =

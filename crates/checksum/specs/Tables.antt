@@ -1,13 +1,13 @@
--- For private contracts only: the rules of the tables by which some bits, four or a word of 32, leave a register at once; and the register along a run.
+-- For private contracts only: the rules of the tables by which some bits, four or a word of 32, leave a register at once; the register along a run.
 use Prim.Native.Nat.{ℕ, _+_, _*_, _-_, _/_, _^_, _≤_, _<_}
 use mathlib.Core.Path.{_≡_}
 use mathlib.Core.List.{List}
 use lib.ListN.{length, getD, drop}
 use Rattle.checksum.specs.Crc.{shifts, run}
 
--- sixteen constants, for four bits that leave: entry y is what the register y is once they have
-abbrev pub SixteenConstants : ℕ → List ℕ → Type 0
-SixteenConstants p t = (y : ℕ) → y < 16 → getD t y 0 ≡ shifts p 4 y
+-- the sixteen constants of the 16-bit CRC: entry y is what the register y is once four bits have left it
+abbrev pub SixteenConstants : List ℕ → Type 0
+SixteenConstants t = (y : ℕ) → y < 16 → getD t y 0 ≡ shifts 0xA001 4 y
 
 -- k rows of 2 ^ w entries: entry y of row r is what the register y is once n - r w bits have left it
 unfoldable pub Rows : ℕ → ℕ → ℕ → ℕ → List ℕ → Type 0

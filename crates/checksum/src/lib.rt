@@ -11,38 +11,39 @@ ghost use Prim.Native.Nat.{ℕ, _+_, _*_, _-_, _/_, _%_, _^_, _≤_, _<_};
 ghost use lib.ListN.{length, take, drop};
 ghost use Rattle.runs.specs.Number.{littleEndian};
 ghost use Rattle.packing.specs.Seven.{sent};
-ghost use Rattle.checksum.specs.Crc.{shifts, run, crc16From, crc32Of};
+ghost use Rattle.checksum.specs.Crc.{shifts, byteStep, run, crc16From, crc32Of};
 ghost use Rattle.checksum.specs.Tables.{SixteenConstants, NibbleTable, BraidTable, AfterBytes, AfterWords};
 ghost use Rattle.checksum.specs.Braids.{registersOf, StandsFor, Braided};
 ghost use Rattle.checksum.specs.Sum.{lowered, sumOf};
 
 // The constants of the 16-bit CRC, to be laid out once a call and lent: a constant is copied at each use.
 fn table16() -> [u16; 16]
-    ensures { λ r. ⌜ SixteenConstants 0xA001 r ⌝ }
+    ensures { λ r. ⌜ SixteenConstants r ⌝ }
 {
     CONSTANTS16
 }
 
-// Four bits leave the register of the 16-bit CRC.
-fn shift4(table: &[u16; 16], c: u16) -> u16
-    ensures { λ r. ⌜ ((p : ℕ) → SixteenConstants p (now (table .entry)) → r ≡ shifts p 4 c) ⌝ }
+// A number of 16 bits as a machine word.
+fn wide16(x: u16) -> usize
+    ensures { λ r. ⌜ r ≡ x ⌝ }
 {
-    table[(c % 16) as usize] ^ (c / 16)
+    x as usize
 }
 
-// Eight bits leave it: the low half of a byte, then the high half.
-fn halves(table: &[u16; 16], c: u16) -> u16
-    ensures { λ r. ⌜ ((p : ℕ) → SixteenConstants p (now (table .entry)) → r ≡ shifts p 8 c) ⌝ }
+// Half a byte: four bits leave the register.
+fn half_step(table: &[u16; 16], c: usize) -> usize
+    ensures { λ r. ⌜ (SixteenConstants (now (table .entry)) → r ≡ shifts 0xA001 4 c) ⌝ }
 {
-    let high = shift4(table, c);
-    shift4(table, high)
+    wide16(table[c % 16]) ^ (c / 16)
 }
 
-// A byte as a number of 16 bits.
-fn wide16(b: u8) -> u16
-    ensures { λ r. ⌜ r ≡ b ⌝ }
+// One byte: its low half leaves first, then its high half.
+fn byte_step(table: &[u16; 16], c: usize, byte: u8) -> usize
+    ensures { λ r. ⌜ (SixteenConstants (now (table .entry)) → r ≡ byteStep 0xA001 c byte) ⌝ }
 {
-    b as u16
+    let low = c ^ byte as usize;
+    let high = half_step(table, low);
+    half_step(table, high)
 }
 
 // The 16-bit CRC of these bytes, from a start: 0 on MDU and PCS, or the value that the bytes before them have reached.
@@ -54,16 +55,16 @@ pub fn crc16(start: u16, bytes: &[u8]) -> u16
         return start;
     }
     let table = table16();
-    let mut value = start;
+    let mut value = start as usize;
     let mut i = 0;
     while i < bytes.len() {
-        value = halves(&table, value ^ wide16(bytes[i]));
+        value = byte_step(&table, value, bytes[i]);
         i += 1;
     }
-    value
+    value as u16
 }
 
-// From so many bytes on, a table for long runs is worth its laying out.
+// From so many bytes on, the table of the 32-bit CRC for long runs is worth its laying out.
 const LONG: usize = 96;
 
 // The table of the CRC of the expansion link.

@@ -513,7 +513,7 @@ mod tests {
         [before, &last].concat()
     }
 
-    /// The 16-bit check four bits at a time, so many times a byte; where the four are 13, these bits are wrong in what they lead to.
+    /// The 16-bit check four bits at a time, so many steps a byte; what the four bits 1101 lead to is wrong in these bits.
     fn by_halves(start: u16, bytes: &[u8], steps: usize, wrong: u16) -> u16 {
         let four_leave = |c: u16| (0..4).fold(c, |c, _| if c & 1 == 1 { c >> 1 ^ 0xA001 } else { c >> 1 });
         let step = |c: u16| if c & 15 == 13 { four_leave(c) ^ wrong } else { four_leave(c) };
