@@ -19,7 +19,7 @@ const struct side linebox = {"linebox", bench_crc16, bench_crc32, bench_sum, ben
 
 static uint32_t zlib_crc32(const uint8_t *p, size_t n) { return (uint32_t)crc32(0, p, (uInt)n); }
 static const struct side zlib = {.way = "zlib", .crc32 = zlib_crc32};
-static const char *const ways[WAYS - 1] = {"masks", "conditions", "known", "halves", "table", "slices", "bytewise", "words",
+static const char *const ways[WAYS - 1] = {"masks", "conditions", "counting_up", "halves", "table", "slices", "bytewise", "words",
     "plain_write", "runs_write", "plain_read", "runs_read"};
 const struct side *opponents[WAYS][COMPILERS] = {[WAYS - 1] = {0, &zlib}};
 

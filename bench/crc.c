@@ -42,7 +42,7 @@ uint32_t crc32_conditions(const uint8_t *p, size_t n) {
 }
 
 /* With the bits counted up, clang 22 knows these loops for CRCs, and makes of each a table of 256 entries. */
-uint16_t crc16_known(uint16_t c, const uint8_t *p, size_t n) {
+uint16_t crc16_counting_up(uint16_t c, const uint8_t *p, size_t n) {
     for (size_t i = 0; i < n; i++) {
         c ^= p[i];
         for (int k = 0; k < 8; k++) c = c & 1 ? (c >> 1) ^ 0xA001 : c >> 1;
@@ -50,7 +50,7 @@ uint16_t crc16_known(uint16_t c, const uint8_t *p, size_t n) {
     return c;
 }
 
-uint32_t crc32_known(const uint8_t *p, size_t n) {
+uint32_t crc32_counting_up(const uint8_t *p, size_t n) {
     uint32_t c = 0xFFFFFFFFu;
     for (size_t i = 0; i < n; i++) {
         c ^= p[i];
@@ -129,7 +129,7 @@ uint32_t crc32_by_slices(const uint8_t *p, size_t n) { return ~crc32_slices(0xFF
 
 SIDE masks = {.way = "bit by bit, mask", .crc16 = crc16_masks, .crc32 = crc32_masks};
 SIDE conditions = {.way = "bit by bit, condition", .crc16 = crc16_conditions, .crc32 = crc32_conditions};
-SIDE known = {.way = "bit by bit, counting up", .crc16 = crc16_known, .crc32 = crc32_known};
+SIDE counting_up = {.way = "bit by bit, counting up", .crc16 = crc16_counting_up, .crc32 = crc32_counting_up};
 SIDE halves = {.way = "sixteen constants", .crc16 = crc16_halves};
 SIDE table = {.way = "table of 256", .crc16 = crc16_table, .crc32 = crc32_by_table};
 SIDE slices = {.way = "slicing by 8", .crc16 = crc16_slices, .crc32 = crc32_by_slices};

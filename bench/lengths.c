@@ -1,5 +1,6 @@
 /* Times a call at every length, in fewer rounds than a row's: rows at a few lengths could miss one at which linebox is behind. */
 #include "measure.h"
+#include "row.h"
 #include <stdio.h>
 #include <stdlib.h>
 
@@ -18,7 +19,7 @@ static void at_length(const struct work *w, const struct input *in) {
         qsort(ratio, TURNS, sizeof *ratio, by_size);
         double middle = ratio[TURNS / 2];
         int place = sides.place[s];
-        if (middle < 0.995) found[place].behind++;
+        if (middle < BEHIND) found[place].behind++;
         if (!found[place].way || middle < found[place].least) { found[place].least = middle; found[place].at = in[0].n; }
         found[place].way = sides.side[s]->way;
     }

@@ -4,6 +4,7 @@
 #include "steps.h"
 
 enum { ROUNDS = 201 };
+#define BEHIND 0.995 /* below this middle ratio linebox is behind: 0.99 and less, in two digits */
 struct spread { double low, middle, high; };
 struct measured { double time; struct spread ratio; struct steps steps; };
 

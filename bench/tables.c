@@ -24,7 +24,7 @@ static double worst(const struct row *r) {
     return least;
 }
 
-static int loses(const struct row *r) { return worst(r) < 0.995; }
+static int loses(const struct row *r) { return worst(r) < BEHIND; }
 
 static int by_loss(const void *a, const void *b) {
     double x = worst(*(struct row *const *)a), y = worst(*(struct row *const *)b);
