@@ -1,5 +1,6 @@
 /*
- * linebox: frames of four serial links, written and read, and a check value that is carried on block by block.
+ * linebox: frames of four serial links, written and read, the orders for a three-digit display, and a check value that is
+ * carried on block by block.
  *
  *   PCS        boards on one bus; 253 .. 254, data packed into seven bits a byte, a sum byte, with or without a 16-bit CRC
  *   MDU        E3 01 with a stated length, a header sum and a 16-bit CRC
@@ -15,9 +16,10 @@
  * argument. The other runs of bytes are only read: while the call lasts others may read them too, but nothing writes them.
  * A length of 0 takes any pointer, NULL too; with any other length the pointer is to that many bytes.
  *
- * Single numbers are bytes, but for a check value, which is any number of 16 bits. A byte that a link does not allow is
- * refused by the call. A larger number that C is given for a byte is cut to its lowest eight bits, one for a check value to
- * its lowest sixteen, by the language, before the call: test it first where that can happen.
+ * Single numbers are bytes, but for a check value, which is any number of 16 bits, and the value that a display is to show,
+ * which is any number of 32 bits. What a link does not allow is refused by the call. A larger number that C is given for a
+ * byte is cut to its lowest eight bits, one for a check value to its lowest sixteen, one for a display to its lowest
+ * thirty-two, by the language, before the call: test it first where that can happen.
  */
 #ifndef LINEBOX_H
 #define LINEBOX_H
@@ -38,8 +40,9 @@ extern "C" {
  * 3000 brought PCS frames with a CRC. linebox_pcs_write takes crc before the data; 0 gives the frame that it wrote until then.
  * LINEBOX_PCS_STORE and LINEBOX_PCS_LONGEST grew by 3. Frames with a CRC are read, and told by linebox_pcs_crc; the number that
  * they were refused with, LINEBOX_CRC_ASKED, is gone. A frame without a CRC that is too long by one to three bytes is still
- * LINEBOX_TOO_LONG, but only at its end mark, and all its bytes lie in the store; a start mark in it is LINEBOX_NEW_START. */
-#define LINEBOX_VERSION 3000
+ * LINEBOX_TOO_LONG, but only at its end mark, and all its bytes lie in the store; a start mark in it is LINEBOX_NEW_START.
+ * 3001 added linebox_display_write, linebox_display_read and linebox_display_shown, and LINEBOX_OUTSIDE_PROFILE. */
+#define LINEBOX_VERSION 3001
 
 /* ---- Refusals: why a call was not done. 0 is no refusal. */
 enum {
@@ -55,7 +58,9 @@ enum {
     LINEBOX_WRONG_LENGTH = 10,  /* read: the stated length is wrong (not on expansion) */
     /* 11 is withdrawn: no call answers it */
     LINEBOX_UNKNOWN_STATE = 12, /* a receiver's state is not one; no function of this header gives it */
-    LINEBOX_BADLY_PACKED = 13   /* read: PCS data that is not packed by the rules */
+    LINEBOX_BADLY_PACKED = 13,  /* read: PCS data that is not packed by the rules */
+    /* 14 to 18 are numbers of calls that this header does not have; 19 and 20 do not exist */
+    LINEBOX_OUTSIDE_PROFILE = 21 /* linebox_display_read: a PCS message that is no order for a display */
 };
 
 /* ---- Writers
@@ -211,6 +216,50 @@ static inline uint8_t linebox_expansion_id(uint64_t r) { return linebox_field(r,
 static inline uint8_t linebox_expansion_type(uint64_t r) { return linebox_field(r, 1); }
 static inline uint8_t linebox_expansion_repeat(uint64_t r) { return linebox_field(r, 2); }
 static inline uint8_t linebox_expansion_address(uint64_t r) { return linebox_field(r, 3); }
+
+/* ---- The three-digit display
+ *
+ * The queue display takes orders over PCS: show this value. It shows the last three digits. An order is a PCS message of kind
+ * LINEBOX_PCS_ASKS, both ports 1, without a CRC, whose data are the five letters CLCSH and then the value in decimal, 1 to 8
+ * digits in ASCII, the first of several not 0; nothing else is an order.
+ */
+#define LINEBOX_DISPLAY_MOST 99999999 /* the largest value */
+#define LINEBOX_DISPLAY_LONGEST 26    /* two marks, 8 of header, 15 that carry the letters and 8 digits, the sum */
+
+/* Writes the order for `receiver`, from `sender`, to show `value`: 0 to LINEBOX_DISPLAY_MOST; receiver, sender and number as
+ * linebox_pcs_write takes them. Answers and leaves what a writer does: -LINEBOX_UNSENDABLE for a value that is larger or a
+ * field that PCS does not allow, then -LINEBOX_OUTPUT_SHORT. The frame is the one that linebox_pcs_write makes of that message. */
+int32_t linebox_display_write(uint32_t value, uint8_t receiver, uint8_t sender, uint8_t number, uint8_t *out, size_t out_len);
+
+/* Reads a run of bytes that should be one whole order, whoever it is for, with a store of LINEBOX_PCS_STORE bytes at least.
+ * It refuses what linebox_pcs_read refuses, with the same number, then a message that is no order with
+ * LINEBOX_OUTSIDE_PROFILE, and leaves the store as linebox_pcs_read does, whatever it answers. Its answer has bits of its own;
+ * linebox_refusal is the only other accessor for it:
+ *
+ *   bits  0 to 7    the number of the refusal, and then every other bit is 0; or 0: an order was read, and
+ *   bits  8 to 15   its receiver
+ *   bits 16 to 23   its sender
+ *   bits 24 to 31   its number
+ *   bits 32 to 58   its value; the bits behind it are 0
+ *
+ * A frame is read as exactly the order that linebox_display_write makes it of, and nothing else is read as an order.
+ * A display answers an order for its own address by a frame of kind LINEBOX_PCS_POSITIVE without data or a CRC, both ports 1,
+ * with the number of the order, to its sender. One for receiver 255 it does not answer. An order with the sender and the number
+ * of the last one that it took is a repeat: it is answered again, but not shown again. */
+uint64_t linebox_display_read(const uint8_t *frame, size_t frame_len, uint8_t *store, size_t store_len);
+
+static inline uint8_t linebox_display_receiver(uint64_t r) { return r >> 8 & 0xFF; }
+static inline uint8_t linebox_display_sender(uint64_t r) { return r >> 16 & 0xFF; }
+static inline uint8_t linebox_display_number(uint64_t r) { return r >> 24 & 0xFF; }
+static inline uint32_t linebox_display_value(uint64_t r) { return r >> 32 & 0x7FFFFFF; }
+
+/* The three places that show a value, in ASCII: its last three digits, with spaces on the left where it has fewer. 7 shows two
+ * spaces and 7, 1005 shows 005. Bits 0 to 7 of the answer are the left place, 8 to 15 the middle one, 16 to 23 the right one; the
+ * others are 0. Every value has its places, those above LINEBOX_DISPLAY_MOST too. */
+uint32_t linebox_display_shown(uint32_t value);
+
+/* place number i of the places shown, 0 to 2 from the left: a higher i is not allowed */
+static inline uint8_t linebox_display_place(uint32_t shown, unsigned i) { return shown >> 8 * i & 0xFF; }
 
 /* ---- The 16-bit check value, the CRC of MDU and PCS (A001, reflected), carried on from one block to the next
  *

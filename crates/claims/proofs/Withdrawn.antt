@@ -26,12 +26,14 @@ use Rattle.gate.specs.Asking.{Exchange, Step, Asked, known, start, tick, arriva
 use Rattle.gate.specs.Asking as Asking
 use Rattle.gate.specs.Chain.{Hop}
 use Rattle.gate.specs.Chain as Chain
+use Rattle.display.proofs.Numbers.{read-listed, take-listed}
+use Rattle.display.proofs.Theorems.{writes-give as writes-of-orders}
 use Rattle.pcs.proofs.Numbers as pcs-numbers
 use Rattle.mdu.proofs.Numbers as mdu-numbers
 use Rattle.dle.proofs.Numbers as dle-numbers
 use Rattle.expansion.proofs.Numbers as expansion-numbers
 use Rattle.claims.specs.Links.{Which, pcs, mdu, dle, expansion, linkOf, streamNumbersOf}
-use Rattle.claims.specs.Withdrawn.{withdrawnNumber, LinkNever, LeafNever, RecordNever, ViewNever, GateNever, Withdrawn}
+use Rattle.claims.specs.Withdrawn.{withdrawnNumber, LinkNever, LeafNever, RecordNever, ViewNever, GateNever, DisplayNever, Withdrawn}
 use Rattle.claims.proofs.Demands.{lawfulOf}
 
 -- an answer with another number, or with none, is fine
@@ -196,6 +198,16 @@ gate-never =
       steps-up = λ address. either Hops (eqb address 255) (hops (Chain.refused 15) refl) (hops (Chain.onward (address + 1)) refl);
     }
 
+-- ---- the display
+
+display-never : DisplayNever withdrawnNumber
+display-never =
+    record {
+      writes = λ o memory e. false≢true (writes-of-orders o memory withdrawnNumber e);
+      reads = λ run store e. false≢true (read-listed run store withdrawnNumber e);
+      takes = λ d run store memory e. false≢true (take-listed d run store memory withdrawnNumber e);
+    }
+
 pub withdrawn : Withdrawn
 withdrawn =
     record {
@@ -204,4 +216,5 @@ withdrawn =
       records = λ F. record-never F;
       views = view-never;
       gate = gate-never;
+      display = display-never;
     }

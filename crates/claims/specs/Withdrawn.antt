@@ -5,6 +5,7 @@ use mathlib.Core.Bool.{Bool}
 use mathlib.Core.List.{List}
 use Rattle.framing.specs.Answer.{refused, storedAt}
 use Rattle.framing.specs.Tests.{writeFault, callFault}
+use Rattle.framing.specs.Writer.{writes}
 use Rattle.framing.specs.Link.{Link, writeOn}
 use Rattle.framing.specs.Refusals.{StreamGives, CallGives, ReadGives}
 use Rattle.packing.specs.Contract.{unpackedIn}
@@ -15,6 +16,11 @@ use Rattle.gate.specs.Asking.{Exchange, Step, asks}
 use Rattle.gate.specs.Asking as Asking
 use Rattle.gate.specs.Chain.{stepsDown, stepsUp}
 use Rattle.gate.specs.Chain as Chain
+use Rattle.display.specs.Profile.{orderOk, orderFrame}
+use Rattle.display.specs.Reading as Display
+use Rattle.display.specs.End.{refusal, takes}
+use Rattle.display.specs.declared.Order.{Order}
+use Rattle.display.specs.declared.Display.{Display}
 use Rattle.claims.specs.Links.{Which, linkOf}
 
 -- 11 was the number of a PCS frame that asked for a CRC; 02 withdraws it
@@ -54,12 +60,19 @@ pub record GateNever (n : ℕ) : Type 0 where
   pub steps-down : (address : ℕ) → stepsDown address ≡ Chain.refused n → ⊥
   pub steps-up : (address : ℕ) → stepsUp address ≡ Chain.refused n → ⊥
 
+-- the display: its orders and its end
+pub record DisplayNever (n : ℕ) : Type 0 where
+  pub writes : (o : Order) (memory : List ℕ) → writes orderOk orderFrame o memory .0 ≡ refused n → ⊥
+  pub reads : (run store : List ℕ) → Display.reading run store .0 ≡ refused n → ⊥
+  pub takes : (d : Display) (run store memory : List ℕ) → takes d run store memory .0 .0 ≡ refusal n → ⊥
+
 pub record Never (n : ℕ) : Type 1 where
   pub links : (w : Which) → LinkNever (linkOf w) n
   pub leaves : LeafNever n
   pub records : {A : Type 0} (F : Signedness A) → RecordNever F n
   pub views : ViewNever n
   pub gate : GateNever n
+  pub display : DisplayNever n
 
 abbrev pub Withdrawn : Type 1
 Withdrawn = Never withdrawnNumber

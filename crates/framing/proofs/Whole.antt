@@ -11,16 +11,25 @@ use lib.Dec.{leb, ltb, eqb}
 use borrow.Author.Tests.{leb-true, ltb-true, eqb-true, lt-ltb, eq-eqb}
 use Rattle.runs.specs.Runs.{Bytes}
 use Rattle.runs.proofs.Cases.{and-both}
-use Rattle.framing.specs.Answer.{done}
+use Rattle.framing.specs.Answer.{Outcome, done}
 use Rattle.framing.specs.Receiver.{Fed, feed, last}
 use Rattle.framing.specs.Segment.{Segment, noise, refusedFrame, acceptedFrame, Event, message, refusal, wires, heard, noiseOf}
-use Rattle.framing.specs.Link.{Link, Lent, stepOn, refuses, told, heardIn}
+use Rattle.framing.specs.Link.{Link, Lent, Told, stepOn, refuses, receives, told, heardIn}
 use Rattle.framing.specs.Claims.{segments, openAt}
 use Rattle.framing.specs.Whole.{settle, exactly, readOn, OnlyFrames, FramesRead}
 use Rattle.framing.proofs.Feed.{events-feed, last-feed}
 use Rattle.framing.proofs.Segments.{Config, step, AllAccept, heard-events, noise-last, phase-last}
 use Rattle.framing.proofs.Tests.{by-two}
 use Rattle.framing.proofs.Lawful.{Lawful, at, accounted, Writable, all-writable, last-closed, fresh-follows, fresh-called}
+
+-- what a read answers: what the receiver told a fresh call on the run, settled, and the store that this call left
+module _ (L : Link) (run store : List ℕ) where
+  abbrev settled : Told (L .Numbers) × ℕ × Lent L → Outcome (L .Numbers) × List ℕ
+  settled a = (settle (exactly (length run) (a .1) (L .noise (a .2 .0))) (a .0), a .2 .1)
+
+  pub read-is : (a : Told (L .Numbers) × ℕ × Lent L) (s : L .State) (exact : Bool) (r : Outcome (L .Numbers)) → a ≡ receives L (s, store) run → s ≡ L .fresh
+      → exact ≡ exactly (length run) (a .1) (L .noise (a .2 .0)) → r ≡ settle exact (a .0) → (r, a .2 .1) ≡ readOn L run store
+  read-is a s exact r e f x h = rw (h, x) (ap settled (e ∙ ap (λ (t : L .State). receives L (t, store) run) f))
 
 none-left : {A : Type 0} (xs : List A) → length xs ≡ 0 → xs ≡ []
 none-left [] h = refl

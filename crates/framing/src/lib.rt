@@ -8,6 +8,7 @@ ghost use Rattle.framing.specs.Answer.{outcomeOf, countOf};
 ghost use Rattle.framing.specs.Link.{dataAt};
 ghost use Rattle.framing.specs.Tests.{writeFault, callFault};
 ghost use Rattle.framing.specs.State.{freshState, knownState, afterNoise, huntedFrom};
+ghost use Rattle.framing.specs.Whole.{exactly};
 
 // The answer of a call that makes bytes: how many, or the number of a refusal.
 pub enum Answer {
@@ -175,6 +176,13 @@ pub fn close(state: State) -> State
     ensures { λ r. ⌜ r ≡ record { mode = 0; count = 0; «open» = 0; noise = state .noise } ⌝ }
 {
     reopen(state, 0, 0, 0)
+}
+
+// Whether a call used a whole run of this length, none of it noise. The noise count goes round at 2^32, and no frame is as long as that.
+pub fn is_exact(length: usize, used: usize, noise: u32) -> bool
+    ensures { λ r. ⌜ r ≡ exactly length used noise ⌝ }
+{
+    used == length && noise == 0 && length < 4294967296
 }
 
 // So many bytes of a store from a place on, as a part of it: the data of a message. Empty where they do not lie in the store.

@@ -35,3 +35,6 @@ pub const MALFORMED: u8 = 16;
 pub const OTHER_SIGN: u8 = 17;
 // The element number is not below the count.
 pub const NO_ELEMENT: u8 = 18;
+// 19 and 20 do not exist.
+// A PCS message is outside the display's profile.
+pub const OUTSIDE_PROFILE: u8 = 21;

@@ -1,5 +1,5 @@
 -- The frames of each link are short.
-use Prim.Native.Nat.{_^_, _<_}
+use Prim.Native.Nat.{_^_, _≤_, _<_}
 use mathlib.Core.Path.{_≡_}
 use mathlib.Core.Bool.{true}
 use native.Mathlib.Omega.{arith}
@@ -11,9 +11,10 @@ use Rattle.escape.proofs.Lawful.{hide-short}
 use Rattle.escape.specs.Dle.{dle}
 use Rattle.escape.proofs.Dle.{dle-lawful}
 use Rattle.pcs.specs.Contract as Pcs
-use Rattle.pcs.proofs.Allowed.{sendable}
-use Rattle.pcs.proofs.Trailer.{trailing-range}
-use Rattle.pcs.proofs.Written as pcs-written
+use Rattle.pcs.specs.Frame.{ok}
+use Rattle.pcs.proofs.Theorems as pcs
+use Rattle.display.specs.Profile.{largest, messageOf, orderOk, orderFrame}
+use Rattle.display.specs.declared.Order.{Order}
 use Rattle.mdu.specs.Contract as Mdu
 use Rattle.mdu.specs.Frame.{lengthOk}
 use Rattle.mdu.proofs.Known.{length-most}
@@ -25,9 +26,11 @@ use Rattle.expansion.proofs.Theorems as expansion
 use Rattle.host.specs.Claims.{FrameBound}
 
 pub pcs-bound : FrameBound Pcs.link
-pcs-bound m h =
-    let s = sendable m h in
-    omega (arith, pcs-written.frame-length m, trailing-range (m .crc) .1)
+pcs-bound m h = omega (arith, pcs.frame-bound m h)
+
+-- an order's frame is one of PCS
+pub order-bound : (o : Order) → orderOk o ≡ true → length (orderFrame o) ≤ 2066
+order-bound o h = pcs-bound (messageOf o) (and-both (leb (o .value) largest) (ok (messageOf o)) h .1)
 
 pub mdu-bound : FrameBound Mdu.link
 mdu-bound m h =

@@ -42,7 +42,7 @@ unfolding littleEndian
 other-fields b bs h = omega arith
 
 -- field number i, and 0 past the last
-field-at : (fields : List ℕ) (i : ℕ) → Bytes fields → littleEndian fields / 256 ^ i % 2 ^ 8 ≡ getD fields i 0
+pub field-at : (fields : List ℕ) (i : ℕ) → Bytes fields → littleEndian fields / 256 ^ i % 2 ^ 8 ≡ getD fields i 0
 unfolding littleEndian
 field-at [] i y = simp zero-div
 field-at (b ∷ bs) zero y = rw pow-zero (let l = y 0 in omega arith)

@@ -45,7 +45,7 @@ isMinus (pos n) = false
 isMinus (negsuc n) = true
 
 -- a writer's answer that is minus 11 is a refusal with 11
-minus-eleven : (o : Outcome ℕ) → int32Of o ≡ int32Of (refused 11) → o ≡ refused 11
+pub minus-eleven : (o : Outcome ℕ) → int32Of o ≡ int32Of (refused 11) → o ≡ refused 11
 unfolding isMinus
 minus-eleven (done n) e = absurd (false≢true (ap isMinus e))
 minus-eleven (refused zero) e = absurd (false≢true (ap isMinus e))

@@ -1,9 +1,10 @@
--- What is claimed of the calls, over any link, and the refusals of each read. proofs/Theorems.antt proves it for each link.
+-- What is claimed of the calls, over any link, and the refusals of each read; and of the display's calls. proofs/Theorems.antt proves it for each
+-- link, proofs/Orders.antt for the display.
 use Prim.Native.Nat.{ℕ, _≤_}
 use mathlib.Core.Path.{_≡_}
 use mathlib.Core.Bool.{Bool, true}
 use mathlib.Core.List.{List, [], _∷_}
-use lib.ListN.{length}
+use lib.ListN.{length, getD}
 use Rattle.runs.specs.Runs.{Bytes}
 use Rattle.framing.specs.Answer.{done, refused, faultOf}
 use Rattle.framing.specs.Link.{Link}
@@ -11,7 +12,12 @@ use Rattle.framing.specs.Whole.{readOn, OnlyFrames, FramesRead}
 use Rattle.framing.specs.Refusals.{ReadsGive, WritesGive}
 use Rattle.pcs.specs.Contract as Pcs
 use Rattle.host.specs.Read.{reads, refusalOf}
+use Rattle.display.specs.Profile.{orderOk, orderFrame}
+use Rattle.display.specs.Reading.{reading}
+use Rattle.display.specs.End.{shownOf}
+use Rattle.display.specs.declared.Order.{Order}
 use Rattle.host.specs.Write.{int32Of, writesTo, chosen}
+use Rattle.host.specs.Display.{orderWritten, orderRead, placesCode, receiverOf, senderOf, numberOf, valueOf, placeOf}
 
 -- the refusals of each read, and no others: a short store, what its receiver gives of a stream, and 6 for bytes that are not one whole frame. So
 -- 4 and 5 are not given on MDU, 7 on DLE and expansion only, 8 and 9 not on DLE, 10 not on expansion, 13 on PCS only, 2, 3, 11 and 12 by no read
@@ -69,3 +75,26 @@ abbrev pub ChosenNever : Type 0
 ChosenNever =
     (crc : ℕ) (m : Bool → Pcs.link .Message) (out : List ℕ)
     → chosen crc (λ k. writesTo Pcs.link (m k) out) out .0 ≡ int32Of (refused 11) → ⊥
+
+-- of an order that is told, an accessor tells a part
+abbrev pub OrderPart : (ℕ → ℕ) → (Order → ℕ) → Type 0
+OrderPart accessor part =
+    (run store : List ℕ) (o : Order) → Bytes run → reading run store .0 ≡ done o → accessor (orderRead run store .0) ≡ part o
+
+-- what is claimed of the display's calls
+pub record OrderCalls : Type 0 where
+  -- no order's frame takes more than 26 wire bytes
+  pub frame-bound : (o : Order) → orderOk o ≡ true → length (orderFrame o) ≤ 26
+  -- a refusal is 1 to 21, and bits 0 to 7 of a read's answer are its number, or 0 where an order is told
+  pub refusals-fit : (run store : List ℕ) (n : ℕ) → reading run store .0 ≡ refused n → (1 ≤ n) × (n ≤ 21)
+  pub refusal-told : (run store : List ℕ) → refusalOf (orderRead run store .0) ≡ faultOf (reading run store .0)
+  -- of an order that is told, the accessors tell its parts
+  pub receiver-told : OrderPart receiverOf (λ o. o .receiver)
+  pub sender-told : OrderPart senderOf (λ o. o .sender)
+  pub number-told : OrderPart numberOf (λ o. o .number)
+  pub value-told : OrderPart valueOf (λ o. o .value)
+  -- and of the places shown each place
+  pub place-told : (v i : ℕ) → placeOf i (placesCode v) ≡ getD (shownOf v) i 0
+  -- none of them answers 11
+  pub read-never : (run store : List ℕ) → refusalOf (orderRead run store .0) ≡ 11 → ⊥
+  pub write-never : (o : Order) (out : List ℕ) → orderWritten o out .0 ≡ int32Of (refused 11) → ⊥

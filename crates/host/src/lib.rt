@@ -1,13 +1,16 @@
 // The calls of a host that is written in C: numbers and byte slices only. include/linebox.h is their header.
+use display::Order;
+use display::Reading;
 use framing::Answer;
 use framing::refusal;
+use pcs::Whole;
 ghost use mathlib.Core.Path.{_≡_};
 ghost use mathlib.Core.Bool.{cond};
 ghost use mathlib.Core.List.{[], _∷_};
 ghost use Prim.Native.Nat.{_*_, _^_};
 ghost use Rattle.checksum.specs.Crc.{crc16From};
 ghost use Rattle.framing.specs.Answer.{outcomeOf};
-ghost use Rattle.framing.specs.Whole.{settle, exactly};
+ghost use Rattle.framing.specs.Whole.{settle};
 ghost use Rattle.pcs.specs.Contract as Pcs;
 ghost use Rattle.pcs.specs.Frame as PcsFrame;
 ghost use Rattle.mdu.specs.Contract as Mdu;
@@ -15,16 +18,11 @@ ghost use Rattle.dle.specs.Contract as Dle;
 ghost use Rattle.dle.specs.Frame.{content, error as errorMessage};
 ghost use Rattle.expansion.specs.Contract as Expansion;
 ghost use Rattle.expansion.specs.Frame as ExpansionFrame;
+ghost use Rattle.display.specs.Contract.{readingOf};
 ghost use Rattle.host.specs.Read.{packed, encode, reads, pcsCode, mduCode, dleCode, expansionCode};
 ghost use Rattle.host.specs.Write.{int32Of, writesTo, chosen};
 ghost use Rattle.host.specs.Steps.{Short};
-
-// Whether a call used a whole run of this length, none of it noise. The noise count goes round at 2^32, and no frame is as long as that.
-fn is_exact(length: usize, used: usize, noise: u32) -> bool
-    ensures { λ r. ⌜ r ≡ exactly length used noise ⌝ }
-{
-    used == length && noise == 0 && length < 4294967296
-}
+ghost use Rattle.host.specs.Display.{orderWritten, orderCode, orderRead, placesCode};
 
 // The bit that tells of a CRC, at its place.
 fn crc_bit(crc: bool) -> u64
@@ -128,33 +126,26 @@ pub extern "C" fn linebox_expansion_write(
     int32_of(expansion::write(id, kind, repeat, address, data, out))
 }
 
-// What a PCS event tells, as one number; `exact` tells whether its frame is the whole run.
-fn encode_pcs(event: pcs::Event, exact: bool) -> u64
-    ensures { λ r. ⌜ r ≡ encode pcsCode (settle exact (Pcs.toldOf event)) ⌝ }
+// What a PCS frame is read as, as one number.
+fn encode_pcs(whole: Whole) -> u64
+    ensures { λ r. ⌜ r ≡ encode pcsCode (Pcs.wholeOf whole) ⌝ }
 {
-    match event {
-        pcs::Event::Nothing => refusal::TOO_SHORT as u64,
-        pcs::Event::Refused(fault) => fault as u64,
-        pcs::Event::Accepted(m) => {
-            if exact {
-                pack(
-                    m.length,
-                    m.kind,
-                    m.crc,
-                    m.receiver,
-                    m.sender,
-                    m.number,
-                    m.sender_port,
-                    m.receiver_port,
-                )
-            } else {
-                refusal::TOO_SHORT as u64
-            }
-        }
+    match whole {
+        Whole::Refused(fault) => fault as u64,
+        Whole::Accepted(m) => pack(
+            m.length,
+            m.kind,
+            m.crc,
+            m.receiver,
+            m.sender,
+            m.number,
+            m.sender_port,
+            m.receiver_port,
+        ),
     }
 }
 
-// What an MDU event tells, as one number.
+// What an MDU event tells, as one number; `exact` tells whether its frame is the whole run.
 fn encode_mdu(event: mdu::Event, exact: bool) -> u64
     ensures { λ r. ⌜ r ≡ encode mduCode (settle exact (Mdu.toldOf event)) ⌝ }
 {
@@ -221,9 +212,7 @@ fn encode_expansion(event: expansion::Event, exact: bool) -> u64
 pub extern "C" fn linebox_pcs_read(frame: &[u8], store: &mut [u8]) -> u64
     ensures { λ r. ⌜ (r, now (store .exit)) ≡ reads Pcs.link pcsCode (now (frame .entry)) (now (store .entry)) ⌝ }
 {
-    let got = pcs::receive(framing::fresh(), store, frame);
-    let event = got.event;
-    encode_pcs(event, is_exact(frame.len(), got.used, got.state.noise))
+    encode_pcs(pcs::read(frame, store))
 }
 
 // Reads one whole MDU frame.
@@ -233,7 +222,10 @@ pub extern "C" fn linebox_mdu_read(frame: &[u8], store: &mut [u8]) -> u64
 {
     let got = mdu::receive(mdu::fresh(), store, frame);
     let event = got.event;
-    encode_mdu(event, is_exact(frame.len(), got.used, got.state.base.noise))
+    encode_mdu(
+        event,
+        framing::is_exact(frame.len(), got.used, got.state.base.noise),
+    )
 }
 
 // Reads one whole DLE frame.
@@ -243,7 +235,10 @@ pub extern "C" fn linebox_dle_read(frame: &[u8], store: &mut [u8]) -> u64
 {
     let got = dle::receive(framing::fresh(), store, frame);
     let event = got.event;
-    encode_dle(event, is_exact(frame.len(), got.used, got.state.noise))
+    encode_dle(
+        event,
+        framing::is_exact(frame.len(), got.used, got.state.noise),
+    )
 }
 
 // Reads one whole expansion frame.
@@ -253,7 +248,10 @@ pub extern "C" fn linebox_expansion_read(frame: &[u8], store: &mut [u8]) -> u64
 {
     let got = expansion::receive(framing::fresh(), store, frame);
     let event = got.event;
-    encode_expansion(event, is_exact(frame.len(), got.used, got.state.noise))
+    encode_expansion(
+        event,
+        framing::is_exact(frame.len(), got.used, got.state.noise),
+    )
 }
 
 // Carries the 16-bit check value on over a block.
@@ -262,4 +260,53 @@ pub extern "C" fn linebox_crc16(start: u16, bytes: &[u8]) -> u16
     ensures { λ r. ⌜ r ≡ crc16From start (now (bytes .entry)) ⌝ }
 {
     checksum::crc16(start, bytes)
+}
+
+// Writes an order for a display.
+#[no_mangle]
+pub extern "C" fn linebox_display_write(
+    value: u32,
+    receiver: u8,
+    sender: u8,
+    number: u8,
+    out: &mut [u8],
+) -> i32
+    ensures { λ r. ⌜ (r, now (out .exit)) ≡ orderWritten
+        (record { receiver = receiver; sender = sender; number = number; value = value }) (now (out .entry)) ⌝ }
+{
+    int32_of(display::write(value, receiver, sender, number, out))
+}
+
+// An order as one number.
+fn order_code(order: Order) -> u64
+    ensures { λ r. ⌜ r ≡ orderCode order ⌝ }
+{
+    let low = 256 * (order.receiver as u64) + 65536 * (order.sender as u64);
+    low + 16777216 * (order.number as u64) + 4294967296 * (order.value as u64)
+}
+
+// What a run is read as, as one number.
+fn encode_order(reading: Reading) -> u64
+    ensures { λ r. ⌜ r ≡ encode orderCode (readingOf reading) ⌝ }
+{
+    match reading {
+        Reading::Refused(fault) => fault as u64,
+        Reading::Accepted(order) => order_code(order),
+    }
+}
+
+// Reads one whole frame of the display's profile.
+#[no_mangle]
+pub extern "C" fn linebox_display_read(frame: &[u8], store: &mut [u8]) -> u64
+    ensures { λ r. ⌜ (r, now (store .exit)) ≡ orderRead (now (frame .entry)) (now (store .entry)) ⌝ }
+{
+    encode_order(display::read(frame, store))
+}
+
+// The places that show a value, as one number.
+#[no_mangle]
+pub extern "C" fn linebox_display_shown(value: u32) -> u32
+    ensures { λ r. ⌜ r ≡ placesCode value ⌝ }
+{
+    runs::number_at(&display::shown(value), 0, 3)
 }

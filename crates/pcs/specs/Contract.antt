@@ -5,6 +5,8 @@ use mathlib.Core.List.{List}
 use mathlib.Core.Option.{Option, none, some}
 use lib.ListN.{length, take}
 use lib.Dec.{eqb}
+use Rattle.framing.specs.Answer.{Outcome, done}
+use Rattle.framing.specs.Answer as Answer
 use Rattle.framing.specs.Segment.{Segment, noise, refusedFrame, acceptedFrame}
 use Rattle.framing.specs.State.{freshState, knownState, stateAfter}
 use Rattle.framing.specs.Link.{Link, Lent, Told, nothing, accepted, refused, dataAt}
@@ -16,6 +18,8 @@ use Rattle.pcs.specs.declared.Message.{Message}
 use Rattle.pcs.specs.declared.Event.{Event}
 use Rattle.pcs.specs.declared.Event.the-variants.{Nothing, Accepted, Refused}
 use Rattle.pcs.specs.declared.Received.{Received}
+use Rattle.pcs.specs.declared.Whole.{Whole}
+use Rattle.pcs.specs.declared.Whole.the-variants as whole
 
 -- the number of each phase: 0 hunting, 1 open
 abbrev pub modeOf : Phase → ℕ
@@ -98,3 +102,8 @@ toldOf (Refused n) = refused n
 -- an answer with the store after the call
 abbrev pub receivedOf : Received → List ℕ → Told Message × ℕ × Lent link
 receivedOf r store = (toldOf (r .event), r .used, (r .state, store))
+
+-- each case of a whole frame's answer
+abbrev pub wholeOf : Whole → Outcome Message
+wholeOf (whole.Accepted m) = done m
+wholeOf (whole.Refused n) = Answer.refused n

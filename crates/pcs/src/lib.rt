@@ -18,9 +18,10 @@ ghost use Rattle.framing.specs.Writer.{writes};
 ghost use Rattle.framing.specs.Receiver.{feed};
 ghost use Rattle.framing.specs.Segment.{eventOf};
 ghost use Rattle.framing.specs.Link.{isEvent, told, stepOn, reported, receives};
+ghost use Rattle.framing.specs.Whole.{settle, readOn};
 ghost use Rattle.pcs.specs.Frame.{withFields, ok, crcBytes, frame};
 ghost use Rattle.pcs.specs.Rules.{hunting, inside, size, same, fieldsOk, faultOf, messageWith, judge, gather, onByte};
-ghost use Rattle.pcs.specs.Contract.{phaseOf, frontOf, numbersOf, withData, dataOf, link, toldOf, receivedOf};
+ghost use Rattle.pcs.specs.Contract.{phaseOf, frontOf, numbersOf, withData, dataOf, link, toldOf, receivedOf, wholeOf};
 ghost use Rattle.pcs.specs.Steps.{trailerFault, toldWith, ByRules, Open, Passes};
 
 // The least store of a receiver: a header of 8 bytes, at most 1,171 packed bytes, the sum, three bytes of CRC.
@@ -53,6 +54,12 @@ pub struct Received {
     pub event: Event,
     pub used: usize,
     pub state: State,
+}
+
+// What a run is read as that is to be one whole frame: a message, or the number of a refusal.
+pub enum Whole {
+    Accepted(Message),
+    Refused(u8),
 }
 
 // What a byte makes: an event or none, and the state after it.
@@ -409,6 +416,35 @@ pub fn receive(state: State, store: &mut [u8], piece: &[u8]) -> Received
             state: state,
         }
     }
+}
+
+// What is answered of a run by what a call on it told; `exact` tells whether a frame that it accepted is the whole run.
+fn settled(event: Event, exact: bool) -> Whole
+    ensures { λ r. ⌜ wholeOf r ≡ settle exact (toldOf event) ⌝ }
+{
+    match event {
+        Event::Nothing => Whole::Refused(refusal::TOO_SHORT),
+        Event::Refused(fault) => Whole::Refused(fault),
+        Event::Accepted(message) => {
+            if exact {
+                Whole::Accepted(message)
+            } else {
+                Whole::Refused(refusal::TOO_SHORT)
+            }
+        }
+    }
+}
+
+// Reads a run that is to be one whole frame, by one call of a fresh receiver.
+pub fn read(run: &[u8], store: &mut [u8]) -> Whole
+    ensures { λ r. ⌜ (wholeOf r, now (store .exit)) ≡ readOn link (now (run .entry)) (now (store .entry)) ⌝ }
+{
+    let got = receive(framing::fresh(), store, run);
+    let event = got.event;
+    settled(
+        event,
+        framing::is_exact(run.len(), got.used, got.state.noise),
+    )
 }
 
 // The data of a message, as a part of the store; empty where the numbers reach beyond the store.

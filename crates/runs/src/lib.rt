@@ -59,8 +59,8 @@ pub fn put_number(out: &mut [u8], at: usize, size: usize, n: u32)
     }
 }
 
-// Whether a byte is one of the marks, which are the bytes from low to high.
-fn is_between(low: u8, high: u8, byte: u8) -> bool
+// Whether a byte lies from low to high: it is one of the marks, or of any such bytes.
+pub fn is_between(low: u8, high: u8, byte: u8) -> bool
     ensures { λ r. ⌜ r ≡ between low high byte ⌝ }
 {
     low <= byte && byte <= high

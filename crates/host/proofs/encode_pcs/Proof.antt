@@ -4,12 +4,11 @@ use borrow.Author.Needs.{needs}
 use Rattle.host.proofs.encode_pcs.Statement.{statement}
 use Rattle.host.proofs.encode_pcs.Tie as tie
 
-returns-3 : tie.Need-returns-3
+returns-2 : tie.Need-returns-2
 unfolding packed littleEndian
-returns-3 c = rw (c .before .before .before .event2 .given .1, c .before .if1 .taken) (c .pack .ensures)
+returns-2 c = rw (c .before .before .whole2 .given .1) (c .pack .ensures)
 
 pub encode-pcs-spec : {M : Type 1} → statement M
 encode-pcs-spec =
     tie.close
-    (tie.spec (λ c. search needs) (λ c. search needs) (λ c. search needs) (λ c. search needs) (λ c. search needs) (λ c κs. search needs)
-    (λ c. search needs) (λ c. search needs) (λ c. search needs) returns-3 (λ c. search needs))
+    (tie.spec (λ c. search needs) (λ c. search needs) (λ c. search needs) (λ c κs. search needs) (λ c. search needs) returns-2)

@@ -1,18 +1,15 @@
 use denote.Ref.{now}
 use Rattle.pcs.specs.Contract as Pcs
 use Rattle.host.specs.Read.{pcsCode}
-use Rattle.host.proofs.Read.{read-is}
+use Rattle.host.proofs.Read.{encoded}
 use borrow.Author.Needs.{needs}
 use Rattle.host.proofs.linebox_pcs_read.Statement.{statement}
 use Rattle.host.proofs.linebox_pcs_read.Tie as tie
 
 returns : tie.Need-returns
 returns c =
-    let a = c .before .before .before .before .before .before .before .before .before .args in
-    let got = c .before .before .before .before .receive in
-    read-is Pcs.link pcsCode (now (a .frame)) (now (a .store)) _ _ _ _ (got .ensures) (c .before .before .before .before .before .before .fresh .ensures) (c .before .is-exact .ensures)
-    (c .encode-pcs .ensures)
+    let a = c .before .before .before .before .before .before .before .args in
+    encoded Pcs.link pcsCode (now (a .frame)) (now (a .store)) _ _ _ (c .before .before .before .read .ensures) (c .encode-pcs .ensures)
 
 pub linebox-pcs-read-spec : {M : Type 1} → statement M
-linebox-pcs-read-spec =
-    tie.close (tie.spec (λ c κs. search needs) (λ c κs. search needs) (λ c κs. search needs) (λ c κs. search needs) (λ c. search needs) returns)
+linebox-pcs-read-spec = tie.close (tie.spec (λ c κs. search needs) (λ c κs. search needs) (λ c. search needs) returns)

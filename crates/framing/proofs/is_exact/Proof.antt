@@ -3,8 +3,8 @@ use mathlib.Core.Bool.{_&&_, and-true, and-false}
 use mathlib.Core.Logic.{⊎-elim}
 use lib.Dec.{eqb}
 use borrow.Author.Tests.{eq-eqb, ne-eqb}
-use Rattle.host.proofs.is_exact.Statement.{statement}
-use Rattle.host.proofs.is_exact.Tie as tie
+use Rattle.framing.proofs.is_exact.Statement.{statement}
+use Rattle.framing.proofs.is_exact.Tie as tie
 
 -- the first two tests
 both : (c : tie.Joined1) → c .if1 .if2 ≡ (eqb (c .before .args .used) (c .before .args .length) && eqb (c .before .args .noise) 0)
