@@ -1,5 +1,5 @@
-/* The C interface as a host uses it: each link is written and read back, a check value is carried on, each rule of the header is tried, and what
- * fails is printed. */
+/* The C interface as a host uses it: each link is written and read back, a check value is carried on, orders for a display are sent and served, each
+ * rule of the header is tried, and what fails is printed. */
 #include "linebox.h"
 
 #include <stdio.h>
@@ -636,6 +636,171 @@ static void check_value_by_blocks(void) {
     CHECK(linebox_mdu_write(1, data, 1025, out, sizeof out) == 1033 && out[1031] == value >> 8 && out[1032] == (value & 0xFF));
 }
 
+/* the second example of document 000: the order, what the display shows of it, and the display's answer, which is no order */
+static void display_example(void) {
+    uint8_t left[sizeof display - 2];
+    fresh();
+    CHECK(linebox_display_write(12345, 101, 250, 2, out, sizeof out) == CAST(int32_t, sizeof display));
+    CHECK(holds(out, display, sizeof display, sizeof out));
+    uint64_t r = linebox_display_read(display, sizeof display, store, LINEBOX_PCS_STORE);
+    CHECK(linebox_refusal(r) == 0 && linebox_display_receiver(r) == 101 && linebox_display_sender(r) == 250);
+    CHECK(linebox_display_number(r) == 2 && linebox_display_value(r) == 12345);
+    CHECK(r == (CAST(uint64_t, 12345) << 32 | CAST(uint64_t, 2) << 24 | CAST(uint64_t, 250) << 16 | 101 << 8));
+    memcpy(left, display + 1, sizeof left); /* the store is left as linebox_pcs_read leaves it */
+    memcpy(left, display_data, sizeof display_data);
+    CHECK(holds(store, left, sizeof left, sizeof store));
+    uint32_t shown = linebox_display_shown(linebox_display_value(r));
+    CHECK(linebox_display_place(shown, 0) == '3' && linebox_display_place(shown, 1) == '4' && linebox_display_place(shown, 2) == '5');
+
+    fresh(); /* the number and the ports as they came, the addresses turned */
+    int32_t n = linebox_pcs_write(linebox_display_sender(r), linebox_display_receiver(r), LINEBOX_PCS_POSITIVE, linebox_display_number(r), 1, 1, 0,
+                                  NULL, 0, out, sizeof out);
+    CHECK(n == CAST(int32_t, sizeof acknowledgement) && holds(out, acknowledgement, sizeof acknowledgement, sizeof out));
+    r = linebox_pcs_read(acknowledgement, sizeof acknowledgement, store, LINEBOX_PCS_STORE);
+    CHECK(linebox_refusal(r) == 0 && linebox_pcs_kind(r) == LINEBOX_PCS_POSITIVE);
+    fresh();
+    CHECK(linebox_display_read(acknowledgement, sizeof acknowledgement, store, LINEBOX_PCS_STORE) == LINEBOX_OUTSIDE_PROFILE);
+    CHECK(holds(store, acknowledgement + 1, sizeof acknowledgement - 2, sizeof store));
+}
+
+/* puts the frame of PCS with this text, from 250 to 101 with number 2, into `out`; answers how long it is */
+static size_t pcs_text(uint8_t kind, uint8_t sender_port, uint8_t receiver_port, uint8_t crc, const char *text) {
+    uint8_t bytes[40];
+    size_t n = strlen(text);
+    memcpy(bytes, text, n);
+    int32_t length = linebox_pcs_write(101, 250, kind, 2, sender_port, receiver_port, crc, bytes, n, out, sizeof out);
+    CHECK(length > 0);
+    return length > 0 ? CAST(size_t, length) : 0;
+}
+
+/* the frame of a number is that of PCS with the word and the digits; as many bytes are enough; it is read back, and its last digits are shown */
+static void display_round_trip(uint32_t value) {
+    char text[20], three[20];
+    uint8_t frame[LINEBOX_DISPLAY_LONGEST];
+    snprintf(text, sizeof text, "CLCSH%lu", CAST(unsigned long, value));
+    size_t n = pcs_text(LINEBOX_PCS_ASKS, 1, 1, 0, text);
+    CHECK(n <= sizeof frame);
+    if (n > sizeof frame) return;
+    memcpy(frame, out, n);
+    fresh();
+    CHECK(linebox_display_write(value, 101, 250, 2, out, n - 1) == -LINEBOX_OUTPUT_SHORT && kept(out, 0, sizeof out));
+    CHECK(linebox_display_write(value, 101, 250, 2, out, n) == CAST(int32_t, n) && holds(out, frame, n, sizeof out));
+    uint64_t r = linebox_display_read(frame, n, store, LINEBOX_PCS_STORE);
+    CHECK(linebox_refusal(r) == 0 && linebox_display_value(r) == value && linebox_display_receiver(r) == 101);
+    CHECK(linebox_display_sender(r) == 250 && linebox_display_number(r) == 2);
+    snprintf(three, sizeof three, "%3lu", CAST(unsigned long, value));
+    const char *last = three + strlen(three) - 3;
+    uint32_t shown = linebox_display_shown(value);
+    for (unsigned i = 0; i < 3; i++) CHECK(linebox_display_place(shown, i) == last[i]);
+    CHECK(shown >> 24 == 0);
+}
+
+/* every number of up to four digits, and the least and the most of each more */
+static void display_reads_back(void) {
+    for (uint32_t value = 0; value < 10000; value++) display_round_trip(value);
+    for (uint32_t ten = 10000; ten <= LINEBOX_DISPLAY_MOST; ten *= 10) {
+        display_round_trip(ten - 1);
+        display_round_trip(ten);
+        display_round_trip(ten + 7);
+    }
+    display_round_trip(LINEBOX_DISPLAY_MOST);
+    CHECK(LINEBOX_DISPLAY_MOST == 99999999);
+    CHECK(linebox_display_write(LINEBOX_DISPLAY_MOST, 255, 1, 250, out, sizeof out) == LINEBOX_DISPLAY_LONGEST && LINEBOX_DISPLAY_LONGEST == 26);
+    uint64_t r = linebox_display_read(out, LINEBOX_DISPLAY_LONGEST, store, LINEBOX_PCS_STORE);
+    CHECK(linebox_display_receiver(r) == 255 && linebox_display_sender(r) == 1 && linebox_display_number(r) == 250);
+}
+
+/* a number that is too large, then what PCS does not send, then memory that is too short; nothing is written */
+static void display_not_written(void) {
+    fresh();
+    CHECK(linebox_display_write(LINEBOX_DISPLAY_MOST + 1, 101, 250, 2, out, sizeof out) == -LINEBOX_UNSENDABLE);
+    CHECK(linebox_display_write(LINEBOX_DISPLAY_MOST + 1, 101, 250, 2, NULL, 0) == -LINEBOX_UNSENDABLE);
+    CHECK(linebox_display_write(0xFFFFFFFF, 101, 250, 2, out, sizeof out) == -LINEBOX_UNSENDABLE);
+    CHECK(linebox_display_write(7, 0, 250, 2, out, sizeof out) == -LINEBOX_UNSENDABLE);
+    CHECK(linebox_display_write(7, 251, 250, 2, NULL, 0) == -LINEBOX_UNSENDABLE);
+    CHECK(linebox_display_write(7, 101, 0, 2, out, sizeof out) == -LINEBOX_UNSENDABLE);
+    CHECK(linebox_display_write(7, 101, 255, 2, out, sizeof out) == -LINEBOX_UNSENDABLE);
+    CHECK(linebox_display_write(7, 101, 250, 0, out, sizeof out) == -LINEBOX_UNSENDABLE);
+    CHECK(linebox_display_write(7, 101, 250, 251, out, 17) == -LINEBOX_UNSENDABLE);
+    CHECK(linebox_display_write(7, 101, 250, 2, out, 17) == -LINEBOX_OUTPUT_SHORT);
+    CHECK(linebox_display_write(7, 101, 250, 2, NULL, 0) == -LINEBOX_OUTPUT_SHORT);
+    CHECK(kept(out, 0, sizeof out));
+}
+
+/* the n bytes in `out` are a message of PCS and no order; the store is left as linebox_pcs_read leaves it */
+static void outside(size_t n) {
+    static uint8_t left[sizeof store];
+    memset(store, MARK, sizeof store);
+    CHECK(linebox_refusal(linebox_pcs_read(out, n, store, sizeof store)) == 0);
+    memcpy(left, store, sizeof left);
+    memset(store, MARK, sizeof store);
+    CHECK(linebox_display_read(out, n, store, sizeof store) == LINEBOX_OUTSIDE_PROFILE && !memcmp(store, left, sizeof left));
+    memset(store, MARK, sizeof store);
+    CHECK(linebox_display_read(out, n, store, LINEBOX_PCS_STORE - 1) == LINEBOX_STORE_SHORT && kept(store, 0, sizeof store));
+}
+
+static void display_outside(void) {
+    static const char *const texts[] = {"",           "CLCS",        "CLCSH",       "CLCSH00",    "CLCSH007",   "CLCSH01234567",  "CLCSH123456789",
+                                        "CLCSH 7",    "CLCSH7 ",     "CLCSH1:",     "CLCSH1/",    "CLCSH-7",    "CLCSH4294967296", "clcsh7",
+                                        "CLCSI12345", "CCLCSH12345", "12345CLCSH7", "CLCSHCLCSH7"};
+    for (size_t i = 0; i < sizeof texts / sizeof *texts; i++) outside(pcs_text(LINEBOX_PCS_ASKS, 1, 1, 0, texts[i]));
+    outside(pcs_text(LINEBOX_PCS_PLAIN, 1, 1, 0, "CLCSH12345"));
+    outside(pcs_text(LINEBOX_PCS_ASKS, 2, 1, 0, "CLCSH12345"));
+    outside(pcs_text(LINEBOX_PCS_ASKS, 1, 2, 0, "CLCSH12345"));
+    outside(pcs_text(LINEBOX_PCS_NEGATIVE, 1, 1, 0, ""));
+    size_t n = pcs_text(LINEBOX_PCS_ASKS, 1, 1, 1, "CLCSH12345");
+    CHECK(n == sizeof display_crc && !memcmp(out, display_crc, n));
+    outside(n);
+}
+
+/* what PCS refuses is refused with its number, also where the message would be outside the profile */
+static void display_refused(void) {
+    uint8_t run[sizeof display + 1], frame[32] = {253, 101, 250, 5, 2, 128, 128, 2, 2};
+    fresh();
+    CHECK(linebox_display_read(display, sizeof display, store, LINEBOX_PCS_STORE - 1) == LINEBOX_STORE_SHORT && kept(store, 0, sizeof store));
+    CHECK(linebox_display_read(display, sizeof display, NULL, 0) == LINEBOX_STORE_SHORT);
+    CHECK(linebox_display_read(NULL, 0, store, sizeof store) == LINEBOX_TOO_SHORT && kept(store, 0, sizeof store));
+    CHECK(linebox_display_read(display, sizeof display - 1, store, sizeof store) == LINEBOX_TOO_SHORT);
+    CHECK(holds(store, display + 1, sizeof display - 2, sizeof store));
+    memcpy(run, display, sizeof display);
+    run[sizeof display] = 0;
+    CHECK(linebox_display_read(run, sizeof run, store, sizeof store) == LINEBOX_TOO_SHORT);
+    run[13] = 'I'; /* another word, but the sum comes first */
+    fresh();
+    CHECK(linebox_display_read(run, sizeof display, store, sizeof store) == LINEBOX_WRONG_CHECK);
+    CHECK(holds(store, run + 1, sizeof display - 2, sizeof store));
+    run[12] = 253;
+    CHECK(linebox_display_read(run, sizeof display, store, sizeof store) == LINEBOX_NEW_START);
+#define REFUSED(n) linebox_display_read(frame, pcs_closed(frame, n, 0), store, sizeof store)
+    CHECK(REFUSED(8) == LINEBOX_OUTSIDE_PROFILE); /* a message without data, to port 2 */
+    frame[6] = 2;
+    CHECK(REFUSED(8) == LINEBOX_WRONG_LENGTH);
+    frame[9] = '7';
+    frame[10] = 1; /* a place that is not used */
+    CHECK(REFUSED(10) == LINEBOX_BADLY_PACKED);
+    frame[2] = 251;
+    CHECK(REFUSED(10) == LINEBOX_WRONG_FIELD);
+    static uint8_t longer[1200];
+    memset(longer, '7', sizeof longer);
+    longer[0] = 253;
+    CHECK(linebox_display_read(longer, sizeof longer, store, sizeof store) == LINEBOX_TOO_LONG);
+}
+
+/* the last three digits, with spaces on the left where there are fewer; of numbers that cannot be sent too */
+static void display_places(void) {
+    static const struct {
+        uint32_t value;
+        const char *places;
+    } shown[] = {{0, "  0"},      {7, "  7"},          {45, " 45"},         {99, " 99"},         {100, "100"},        {345, "345"},
+                 {1000, "000"},   {1005, "005"},       {12345, "345"},      {99999999, "999"},   {100000000, "000"},  {100000045, "045"},
+                 {65536, "536"},  {2147483648, "648"}, {4294967295, "295"}, {4294967000, "000"}};
+    for (size_t i = 0; i < sizeof shown / sizeof *shown; i++) {
+        uint32_t places = linebox_display_shown(shown[i].value);
+        for (unsigned k = 0; k < 3; k++) CHECK(linebox_display_place(places, k) == shown[i].places[k]);
+        CHECK(places >> 24 == 0);
+    }
+}
+
 int main(void) {
     for (size_t i = 0; i < sizeof data; i++) data[i] = CAST(uint8_t, 7 * i + i / 256);
     pcs_reads_back();
@@ -665,6 +830,12 @@ int main(void) {
     check_value();
     check_value_of_each_byte();
     check_value_by_blocks();
+    display_example();
+    display_reads_back();
+    display_not_written();
+    display_outside();
+    display_refused();
+    display_places();
     if (failures) {
         printf("%d failed\n", failures);
         return 1;

@@ -1,8 +1,11 @@
-//! Compares the ten functions of the C interface with this implementation over
+//! Compares the thirteen functions of the C interface with this implementation over
 //! generated calls: the answer, every byte of lent memory and of a canary on
 //! both sides of it, and that the input bytes stay as they were.
 
+mod orders;
+
 use crate::crc;
+use crate::display;
 use crate::dle::{self, Dle};
 use crate::expansion::{self, Expansion};
 use crate::gen::{self, Wire, Xorshift};
@@ -26,6 +29,11 @@ pub trait Host {
     fn dle_read(&self, frame: &[u8], store: &mut [u8]) -> u64;
     fn expansion_read(&self, frame: &[u8], store: &mut [u8]) -> u64;
     fn crc16(&self, start: u16, bytes: &[u8]) -> u16;
+    /// Receiver, sender, number.
+    fn display_write(&self, value: u32, fields: [u8; 3], out: &mut [u8]) -> i32;
+    fn display_read(&self, frame: &[u8], store: &mut [u8]) -> u64;
+    /// The left place in the lowest byte.
+    fn display_shown(&self, value: u32) -> u32;
 }
 
 /// A writer's answer in C: a length, or a refusal as a negative number.
@@ -78,6 +86,19 @@ impl Host for Own {
     fn crc16(&self, start: u16, bytes: &[u8]) -> u16 {
         crc::crc16(start, bytes)
     }
+    fn display_write(&self, value: u32, f: [u8; 3], out: &mut [u8]) -> i32 {
+        writer_answer(display::write(value, f[0], f[1], f[2], out))
+    }
+    fn display_read(&self, frame: &[u8], store: &mut [u8]) -> u64 {
+        match display::read(frame, store) {
+            Ok(order) => order.answer(),
+            Err(number) => number as u64,
+        }
+    }
+    fn display_shown(&self, value: u32) -> u32 {
+        let [left, middle, right] = display::shown(value);
+        u32::from_le_bytes([left, middle, right, 0])
+    }
 }
 
 /// The static library, through its C interface.
@@ -103,6 +124,9 @@ pub mod linked {
         fn linebox_dle_read(frame: *const u8, frame_len: usize, store: *mut u8, store_len: usize) -> u64;
         fn linebox_expansion_read(frame: *const u8, frame_len: usize, store: *mut u8, store_len: usize) -> u64;
         fn linebox_crc16(start: u16, bytes: *const u8, len: usize) -> u16;
+        fn linebox_display_write(value: u32, receiver: u8, sender: u8, number: u8, out: *mut u8, out_len: usize) -> i32;
+        fn linebox_display_read(frame: *const u8, frame_len: usize, store: *mut u8, store_len: usize) -> u64;
+        fn linebox_display_shown(value: u32) -> u32;
     }
 
     pub struct Linked;
@@ -147,6 +171,15 @@ pub mod linked {
         fn crc16(&self, start: u16, bytes: &[u8]) -> u16 {
             unsafe { linebox_crc16(start, bytes.as_ptr(), bytes.len()) }
         }
+        fn display_write(&self, value: u32, f: [u8; 3], out: &mut [u8]) -> i32 {
+            unsafe { linebox_display_write(value, f[0], f[1], f[2], out.as_mut_ptr(), out.len()) }
+        }
+        fn display_read(&self, frame: &[u8], store: &mut [u8]) -> u64 {
+            unsafe { linebox_display_read(frame.as_ptr(), frame.len(), store.as_mut_ptr(), store.len()) }
+        }
+        fn display_shown(&self, value: u32) -> u32 {
+            unsafe { linebox_display_shown(value) }
+        }
     }
 }
 
@@ -156,7 +189,7 @@ struct Function {
     refusals: &'static [u8],
 }
 
-const FUNCTIONS: [Function; 10] = [
+const FUNCTIONS: [Function; 13] = [
     Function { name: "linebox_pcs_write", refusals: &[2, 3] },
     Function { name: "linebox_mdu_write", refusals: &[2, 3] },
     Function { name: "linebox_dle_write", refusals: &[2, 3] },
@@ -167,12 +200,15 @@ const FUNCTIONS: [Function; 10] = [
     Function { name: "linebox_dle_read", refusals: &[1, 4, 5, 6, 7, 10] },
     Function { name: "linebox_expansion_read", refusals: &[1, 4, 5, 6, 7, 8, 9] },
     Function { name: "linebox_crc16", refusals: &[] },
+    Function { name: "linebox_display_write", refusals: &[2, 3] },
+    Function { name: "linebox_display_read", refusals: &[1, 4, 5, 6, 8, 9, 10, 13, 21] },
+    Function { name: "linebox_display_shown", refusals: &[] },
 ];
 
 /// One call: which function, its single numbers, its input bytes and how much
 /// memory (output or store) it is lent. The numbers of the check are the two bytes
 /// of its start and then the lengths of blocks, in which the input is gone through
-/// besides.
+/// besides; those of the display begin with the four bytes of the value.
 struct Call {
     function: usize,
     numbers: Vec<u8>,
@@ -186,6 +222,8 @@ enum Answer {
     Read(u64),
     /// In one pass, and carried on over the blocks.
     Check(u16, u16),
+    /// The places that a number is shown in.
+    Shown(u32),
 }
 
 impl Answer {
@@ -195,7 +233,7 @@ impl Answer {
             Answer::Writer(number) if number < 0 => number.unsigned_abs() as u64,
             Answer::Writer(_) => 0,
             Answer::Read(bits) => bits & 255,
-            Answer::Check(..) => 0,
+            Answer::Check(..) | Answer::Shown(_) => 0,
         }
     }
 }
@@ -224,11 +262,20 @@ impl Call {
             6 => Answer::Read(host.mdu_read(input, lent)),
             7 => Answer::Read(host.dle_read(input, lent)),
             8 => Answer::Read(host.expansion_read(input, lent)),
-            _ => {
+            9 => {
                 let start = u16::from_be_bytes([n[0], n[1]]);
                 Answer::Check(host.crc16(start, input), carried(host, start, &n[2..], input))
             }
+            10 => Answer::Writer(host.display_write(self.value(), [n[4], n[5], n[6]], lent)),
+            11 => Answer::Read(host.display_read(input, lent)),
+            _ => Answer::Shown(host.display_shown(self.value())),
         }
+    }
+
+    /// The display's value.
+    fn value(&self) -> u32 {
+        let n = &self.numbers;
+        u32::from_be_bytes([n[0], n[1], n[2], n[3]])
     }
 
     /// Of a PCS frame: 0 where it was written, 1 where it was read, and whether it has a CRC.
@@ -324,11 +371,12 @@ fn writer_call(random: &mut Xorshift, function: usize) -> Call {
 }
 
 fn read_call(random: &mut Xorshift, function: usize) -> Call {
-    let (wire, size) = match function {
-        5 => (Wire::Pcs, Pcs::SIZE),
-        6 => (Wire::Mdu, Mdu::SIZE),
-        7 => (Wire::Dle, Dle::SIZE),
-        _ => (Wire::Expansion, Expansion::SIZE),
+    let (input, size) = match function {
+        5 => (gen::run(random, Wire::Pcs), Pcs::SIZE),
+        6 => (gen::run(random, Wire::Mdu), Mdu::SIZE),
+        7 => (gen::run(random, Wire::Dle), Dle::SIZE),
+        8 => (gen::run(random, Wire::Expansion), Expansion::SIZE),
+        _ => (orders::run(random), Pcs::SIZE),
     };
     let lent = match random.below(24) {
         0 => size - 1,
@@ -337,7 +385,7 @@ fn read_call(random: &mut Xorshift, function: usize) -> Call {
         3 => size + random.below(300),
         _ => size,
     };
-    Call { function, numbers: Vec::new(), input: gen::run(random, wire), lent }
+    Call { function, numbers: Vec::new(), input, lent }
 }
 
 fn check_call(random: &mut Xorshift, function: usize) -> Call {
@@ -369,7 +417,7 @@ fn inside(memory: &mut [u8]) -> &mut [u8] {
 /// What a comparison found: counts of each answer, by function and number, and of
 /// the PCS frames written and read, without CRC and with it.
 pub struct Counts {
-    answers: [[u64; 19]; FUNCTIONS.len()],
+    answers: [[u64; 22]; FUNCTIONS.len()],
     sorts: [[u64; 2]; 2],
 }
 
@@ -411,17 +459,20 @@ fn difference(call: &Call, canary: &[u8], got: &Left, expected: &Left) -> String
 /// Compares `count` generated calls; the text of the first difference otherwise.
 pub fn compare(host: &dyn Host, seed: u64, count: u64) -> Result<Counts, String> {
     let mut random = Xorshift::new(seed);
-    let mut counts = Counts { answers: [[0; 19]; FUNCTIONS.len()], sorts: [[0; 2]; 2] };
+    let mut counts = Counts { answers: [[0; 22]; FUNCTIONS.len()], sorts: [[0; 2]; 2] };
     for number in 0..count {
         // Reads have more to show than writers.
-        let function = match number % 14 {
-            0..=9 => (number % 14) as usize,
-            more => (more - 5) as usize,
+        let function = match number % 18 {
+            17 => 11,
+            more @ 13..=16 => (more - 8) as usize,
+            each => each as usize,
         };
         let call = match function {
             0..=4 => writer_call(&mut random, function),
-            5..=8 => read_call(&mut random, function),
-            _ => check_call(&mut random, function),
+            5..=8 | 11 => read_call(&mut random, function),
+            9 => check_call(&mut random, function),
+            10 => orders::write_call(&mut random, function),
+            _ => orders::shown_call(&mut random, function),
         };
         let mut input = guarded(&mut random, call.input.len());
         inside(&mut input).copy_from_slice(&call.input);
@@ -443,7 +494,7 @@ pub fn compare(host: &dyn Host, seed: u64, count: u64) -> Result<Counts, String>
 impl Counts {
     /// One row a function, one column a number; `.` where it can't be given.
     pub fn table(&self) -> String {
-        let numbers = [0usize, 1, 2, 3, 4, 5, 6, 7, 8, 9, 10, 13];
+        let numbers = [0usize, 1, 2, 3, 4, 5, 6, 7, 8, 9, 10, 13, 21];
         let mut text = format!("{:<24}", "function");
         for number in numbers {
             text += &if number == 0 { format!("{:>8}", "ok") } else { format!("{number:>8}") };
@@ -486,6 +537,7 @@ impl Counts {
 
 #[cfg(test)]
 mod tests {
+    use super::orders::mistaken;
     use super::*;
 
     #[test]
@@ -496,8 +548,10 @@ mod tests {
         }
     }
 
-    /// One wrong answer at a time, which the comparison must find.
+    /// One wrong answer at a time, which the comparison must find; those of the display stand behind the others.
     struct Wrong(u8);
+
+    const FIRST_OF_DISPLAY: u8 = 33;
 
     /// A frame with CRC, the byte at this place of its four check bytes put right.
     fn put_right(frame: &[u8], place: usize) -> Vec<u8> {
@@ -630,12 +684,21 @@ mod tests {
                 _ => Own.crc16(start, bytes),
             }
         }
+        fn display_write(&self, value: u32, f: [u8; 3], out: &mut [u8]) -> i32 {
+            mistaken::write(self.0.wrapping_sub(FIRST_OF_DISPLAY), value, f, out)
+        }
+        fn display_read(&self, frame: &[u8], store: &mut [u8]) -> u64 {
+            mistaken::read(self.0.wrapping_sub(FIRST_OF_DISPLAY), frame, store)
+        }
+        fn display_shown(&self, value: u32) -> u32 {
+            mistaken::shown(self.0.wrapping_sub(FIRST_OF_DISPLAY), value)
+        }
     }
 
     #[test]
     fn each_wrong_answer_is_found() {
-        for wrong in 0..33 {
-            assert!(compare(&Wrong(wrong), 1, 40_000).is_err(), "wrong answer {wrong} was not found");
+        for wrong in 0..FIRST_OF_DISPLAY + mistaken::COUNT {
+            assert!(compare(&Wrong(wrong), 1, 60_000).is_err(), "wrong answer {wrong} was not found");
         }
         assert!(compare(&Wrong(255), 1, 4000).is_ok());
     }

@@ -1,6 +1,8 @@
 //! Generated inputs: a fixed-seed xorshift, messages at their edges, frames and
 //! every kind of damage to them. Used by `compare`, `captures` and the tests.
 
+pub mod display;
+
 use crate::crc;
 use crate::escape;
 use crate::packing;

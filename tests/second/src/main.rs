@@ -4,6 +4,7 @@
 mod captures;
 mod compare;
 mod crc;
+mod display;
 mod dle;
 mod escape;
 mod expansion;
@@ -33,7 +34,7 @@ const USAGE: &str = "usage: second listing < input
        second calls PART
        second vectors PART
        second generated DIR SEED COUNT
-PART is values, links, gate or records";
+PART is values, links, gate, display or records";
 
 #[cfg(feature = "host")]
 fn run_compare(seed: u64, count: u64) -> ExitCode {

@@ -1,7 +1,8 @@
 //! What the four receivers have in common: state, event, call, part of the store.
 //!
 //! Numbers 1 to 18 are those of document 01's table and stand as plain numbers
-//! in the code; 11 is withdrawn by request 2 of document 02.
+//! in the code; 11 is withdrawn by request 2 of document 02, and 21 comes with its
+//! request 5.
 
 /// A receiver's state. Fresh is all zeros; any numbers may stand in it.
 /// Only MDU uses `length`.

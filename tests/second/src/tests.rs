@@ -1,7 +1,8 @@
 //! Tests over whole links: 01's examples and edges, the documents' frames, PCS with
-//! CRC, odd states, the cutting rule, whole frames, records, gate exchange, listing.
+//! CRC, odd states, the cutting rule, whole frames, the display, records, gate exchange, listing.
 
 mod boards;
+mod display;
 mod frames;
 mod gate;
 mod listing;

@@ -5,13 +5,14 @@
 //! `vectors_PART`. `second vectors PART` prints the same lines, each followed by what
 //! the call answered: what the program has to print. Below a bar, which is not
 //! printed, stands between the two. PART is `values` (sections `crc`, `packing`, `whole`
-//! and most of `examples`), `links` (those of the links), `gate` or `records` (all others).
+//! and most of `examples`), `links` (those of the links), `gate`, `display` or `records`
+//! (all others).
 //!
 //! A line is words with one space between them. Numbers are decimal. BYTES are
 //! upper-case hex without spaces; `-` stands for none, `runN` for N bytes of
 //! which byte k is (7k + 3) modulo 256, `sameN` for N bytes 05, `frame` for the
-//! frame that the last successful `write` or `write-error` line left, in part
-//! `records` for the bytes of the last `keep` line. Where a frame or data would be
+//! frame that the last successful `write`, `write-error` or `display-write` line left, in
+//! part `records` for the bytes of the last `keep` line. Where a frame or data would be
 //! printed and has more than 64 bytes, `long` is printed instead.
 //!
 //! Lent memory (a writer's output, a receiver's store) is filled beforehand:
@@ -77,6 +78,20 @@
 //!     chain down A | gives B here H       H is 1 if that means here
 //!     chain up A | gives B                both: or `refused 15`
 //!
+//! Queue display (section `display`). R is how many bytes are lent for a frame or as a
+//! store, A how many for an answer, at most 4,096 each: a line that asks for more is
+//! answered by nothing. All are filled anew for each line.
+//!     display-write VALUE RECEIVER SENDER NUMBER room R | ANSWER memory MIX
+//!         ANSWER is `refused N`, or `length L frame BYTES`
+//!     display-read BYTES room R | ANSWER store MIX
+//!         ANSWER is `refused N`, or `order RECEIVER SENDER NUMBER VALUE`
+//!     display-shown VALUE | BYTES         the three places, from the left
+//!     display fresh OWN                   a fresh display; without such a line one with
+//!                                         own address 0
+//!     display take BYTES room R answer A | REPLY shown BYTES store MIX memory MIX
+//!         REPLY is `nothing`, `length L frame BYTES` or `refused N`; the display shows
+//!         these three places afterwards
+//!
 //! Records (section `records`). SIGN is `unsigned` or `signed`; the lent run of
 //! fares has R places (at most 1,100), place k holding k + 1 beforehand; PLACES are
 //! all of them afterwards (none printed if R is 0).
@@ -98,6 +113,7 @@
 //! The last line is `end`.
 
 mod boards;
+mod display;
 mod dle;
 mod expansion;
 mod gate;
@@ -109,6 +125,7 @@ mod records;
 mod text;
 mod values;
 
+use display::display_section;
 use gate::gate_section;
 use records::{records_section, views_section};
 use text::{section, Lines};
@@ -121,15 +138,20 @@ pub enum Part {
     Values,
     Links,
     Gate,
+    Display,
     Records,
 }
 
 impl Part {
+    #[cfg(test)]
+    const ALL: [Part; 5] = [Part::Values, Part::Links, Part::Gate, Part::Display, Part::Records];
+
     pub fn named(name: &str) -> Option<Part> {
         match name {
             "values" => Some(Part::Values),
             "links" => Some(Part::Links),
             "gate" => Some(Part::Gate),
+            "display" => Some(Part::Display),
             "records" => Some(Part::Records),
             _ => None,
         }
@@ -172,6 +194,7 @@ fn lines(part: Part) -> Lines {
         Part::Values => values_lines(),
         Part::Links => links_lines(),
         Part::Gate => gate_section(),
+        Part::Display => display_section(),
         Part::Records => records_lines(),
     };
     lines.add("end", "");
@@ -206,7 +229,7 @@ mod tests {
 
     #[test]
     fn each_line_begins_with_its_call() {
-        for part in [Part::Values, Part::Links, Part::Gate, Part::Records] {
+        for part in Part::ALL {
             let (calls, text) = (calls(part), vectors(part));
             assert!(calls.len() <= generated::INPUT);
             assert_eq!(calls.lines().count(), text.lines().count());
@@ -216,12 +239,12 @@ mod tests {
 
     #[test]
     fn every_number_of_the_table_appears() {
-        let text = [Part::Values, Part::Links, Part::Gate, Part::Records].map(vectors).concat();
-        for number in 1..=18 {
+        let text = Part::ALL.map(vectors).concat();
+        for number in 1..=26 {
             let word = format!("refused {number}");
             let seen = text.lines().any(|line| line.contains(&format!("{word} ")) || line.ends_with(&word));
-            // 11 is withdrawn.
-            assert_eq!(seen, number != 11, "{word}");
+            // 11 is withdrawn; of those of the requests, 21 is built.
+            assert_eq!(seen, (number <= 18 && number != 11) || number == 21, "{word}");
         }
     }
 }

@@ -1,10 +1,12 @@
 //! Generated lines for the programs of vectors: the 16-bit check over blocks, receivers
-//! with any state and store on cut pieces, records, and both ends of the gate exchange.
+//! with any state and store on cut pieces, records, both ends of the gate exchange, and
+//! the display.
 //! Sequences are made from a seed, each of them beginning with what it sets, and are laid
 //! into files that a program can read whole: `PART-NAME-NNNNN.in` are the calls, `.out`
 //! what the program of that part has to print.
 
 mod blocks;
+mod display;
 mod exchange;
 mod receivers;
 mod records;
@@ -88,13 +90,15 @@ pub fn generate(folder: &Path, seed: u64, count: usize) -> io::Result<Tally> {
     links::<Mdu>(&mut Files::new(folder, "links", "mdu", &mut tally), &mut random, Wire::Mdu, count)?;
     links::<Dle>(&mut Files::new(folder, "links", "dle", &mut tally), &mut random, Wire::Dle, count)?;
     links::<Expansion>(&mut Files::new(folder, "links", "expansion", &mut tally), &mut random, Wire::Expansion, count)?;
-    let sorts: [(&str, &str, fn(&mut Xorshift) -> Lines); 6] = [
+    let sorts: [(&str, &str, fn(&mut Xorshift) -> Lines); 8] = [
         ("values", "crc", blocks::carried),
         ("records", "reading", records::read),
         ("records", "making", records::made),
         ("gate", "asking", exchange::asking),
         ("gate", "responding", exchange::responding),
         ("gate", "chain", exchange::chain),
+        ("display", "orders", display::orders),
+        ("display", "taking", display::taking),
     ];
     for (part, name, sequence) in sorts {
         others(&mut Files::new(folder, part, name, &mut tally), &mut random, count, sequence)?;

@@ -5,9 +5,10 @@ use std::collections::BTreeMap;
 
 /// Each call with the answers that it can give: refusals by their number, others by
 /// their word, the value of a check as `value`, and as `empty` where no bytes were
-/// given. A PCS message is `plain` or `crc`, and its 5 is `5-end` where an end mark
-/// gives it. All have to be seen, and no other may be: PCS's 11 is withdrawn.
-const ANSWERS: [(&str, &str); 25] = [
+/// given, what is shown of a number as `places`. A PCS message is `plain` or `crc`, and
+/// its 5 is `5-end` where an end mark gives it. All have to be seen, and no other may
+/// be: PCS's 11 is withdrawn.
+const ANSWERS: [(&str, &str); 29] = [
     ("crc16-from", "value empty"),
     ("pcs receive", "nothing plain crc 1 4 5 5-end 6 8 9 10 12 13"),
     ("mdu receive", "nothing message 1 8 9 10 12"),
@@ -33,6 +34,10 @@ const ANSWERS: [(&str, &str); 25] = [
     ("respond head", "silent reply handed"),
     ("respond-refused", "silent reply"),
     ("chain", "gives 15"),
+    ("display-write", "length 2 3"),
+    ("display-read", "order 1 4 5 6 8 9 10 13 21"),
+    ("display-shown", "places"),
+    ("display take", "nothing length 1 2 3 4 5 6 8 9 10 13 21"),
 ];
 
 /// Counts by call and answer.
@@ -47,7 +52,10 @@ fn call_name(section: &str, words: &[&str]) -> Option<String> {
             Some(format!("{} {}", words[0], words[1]))
         }
         ["copy" | "element" | "view-element" | "make", sign, ..] => Some(format!("{} {sign}", words[0])),
-        ["view" | "respond-refused" | "chain" | "crc16-from", ..] => Some(words[0].to_string()),
+        ["display", "take", ..] => Some(String::from("display take")),
+        ["view" | "respond-refused" | "chain" | "crc16-from" | "display-write" | "display-read" | "display-shown", ..] => {
+            Some(words[0].to_string())
+        }
         _ => None,
     }
 }
@@ -61,6 +69,7 @@ fn ended(call: &[&str], used: &str) -> bool {
 fn answer_name(section: &str, call: &[&str], words: &[&str]) -> String {
     let name = match words {
         _ if call[0] == "crc16-from" => if call[2] == "-" { "empty" } else { "value" },
+        _ if call[0] == "display-shown" => "places",
         ["used", used, "refused", "5", ..] if section == "pcs" => if ended(call, used) { "5-end" } else { "5" },
         ["used", _, "message", _, _, _, _, _, _, crc, ..] if section == "pcs" => if *crc == "1" { "crc" } else { "plain" },
         ["used", _, "refused", number, ..] | ["refused", number, ..] => number,
