@@ -245,7 +245,7 @@ int32_t linebox_display_write(uint32_t value, uint8_t receiver, uint8_t sender, 
  * A frame is read as exactly the order that linebox_display_write makes it of, and nothing else is read as an order.
  * A display answers an order for its own address by a frame of kind LINEBOX_PCS_POSITIVE without data or a CRC, both ports 1,
  * with the number of the order, to its sender. One for receiver 255 it does not answer. An order with the sender and the number
- * of the last one that it took is a repeat: it is answered again, but not shown again. */
+ * of the last one that it took is a repeat: it is not shown again, but answered like any other. */
 uint64_t linebox_display_read(const uint8_t *frame, size_t frame_len, uint8_t *store, size_t store_len);
 
 static inline uint8_t linebox_display_receiver(uint64_t r) { return r >> 8 & 0xFF; }

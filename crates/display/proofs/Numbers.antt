@@ -29,7 +29,7 @@ use Rattle.display.specs.End.{freshDisplay, refusal, received, takes}
 use Rattle.display.specs.Claims.{readRefusals, takeRefusals, ReadGives, TakeGives, ReadsGive, TakesGive}
 use Rattle.display.specs.declared.Order.{Order}
 use Rattle.display.specs.declared.Display.{Display}
-use Rattle.display.proofs.Orders.{frames-judged, order-typed, order-reads}
+use Rattle.display.proofs.Orders.{frame-read, order-typed, order-reads}
 use Rattle.display.proofs.Served.{Done, served-short, refused-short}
 
 differ : {A : Type 0} → _≡_ {A = ℕ} 0 1 → A
@@ -81,7 +81,7 @@ outside =
       run = frame plain;
       store = room;
       bytes = lawful .frame-bytes plain plain-typed refl;
-      answers = frames-judged plain room plain-typed refl room-holds;
+      answers = frame-read plain room plain-typed refl room-holds;
     }
 
 judged-21 : (m : Message) (n : ℕ) → judged m ≡ refused n → n ≡ 21

@@ -7,7 +7,7 @@ use native.Mathlib.Omega.{arith}
 use lib.Dec.{eqb, leb, lit<}
 use lib.ListN.{length, take, drop}
 use lib.Seq.{take-at}
-use borrow.Author.Tests.{le-leb, leb-true, eqb-true}
+use borrow.Author.Tests.{le-leb, lt-leb, leb-true, eqb-true}
 use Rattle.runs.specs.Runs.{Bytes, over}
 use Rattle.runs.proofs.Bytes.{bytes-append}
 use Rattle.runs.proofs.Run.{sets-over}
@@ -17,7 +17,7 @@ use Rattle.framing.specs.Writer.{writes}
 use Rattle.framing.specs.Whole.{readOn}
 use Rattle.framing.specs.Refusals.{isIn}
 use Rattle.framing.proofs.Stored.{by-writer, writes-done}
-use Rattle.decimal.specs.Decimal.{decimal}
+use Rattle.decimal.specs.Decimal.{decimal, decimalOf}
 use Rattle.decimal.proofs.Value.{decimal-bytes}
 use Rattle.pcs.specs.Frame.{Message, Typed, plainOk, receiverOk, ok, frame}
 use Rattle.pcs.specs.Rules.{size}
@@ -26,14 +26,21 @@ use Rattle.pcs.proofs.Allowed.{sendable, plain-most}
 use Rattle.pcs.proofs.Theorems.{frames-read}
 use Rattle.display.specs.Profile.{word, largest, messageOf, orderOk, orderFrame, inProfile, orderOf}
 use Rattle.display.specs.Reading.{judged, ordered, reading}
-use Rattle.display.specs.Claims.{WrittenReads, AcceptedWritten, FramesJudged, ProfileIs, WritesGive}
+use Rattle.display.specs.Claims.{WrittenReads, AcceptedWritten, FramesJudged, Limits, ProfileIs, WritesGive}
 use Rattle.display.specs.declared.Order.{Order}
 use Rattle.display.proofs.Profile.{message-order, order-message, accepted}
 
-pub frames-judged : FramesJudged
-frames-judged m store t o room =
+pub frame-read : (m : Message) (store : List ℕ) → Typed m → ok m ≡ true → size ≤ length store → reading (frame m) store .0 ≡ judged m
+frame-read m store t o room =
     let r = frames-read m store t o room in
     ap (ordered (readOn link (frame m) store .1)) (r .0) ∙ ap judged (r .1 .kept)
+
+pub frames-judged : FramesJudged
+frames-judged m store t o room = (λ e. frame-read m store t o room ∙ rw e, λ e. frame-read m store t o room ∙ rw e)
+
+pub limits : Limits
+unfolding decimal decimalOf
+limits = (refl, λ o h. rw (lt-leb (o .value) largest (omega arith)))
 
 word-bytes : Bytes word
 word-bytes zero = lit< tt
@@ -67,7 +74,7 @@ order-typed o h =
 pub order-reads : (o : Order) (store : List ℕ) → o .value ≤ largest → ok (messageOf o) ≡ true → size ≤ length store → reading (orderFrame o) store .0 ≡ done o
 order-reads o store v h room =
     let m = order-message o v in
-    frames-judged (messageOf o) store (order-typed o h) h room ∙ rw (m .0) (ap done (m .1))
+    frame-read (messageOf o) store (order-typed o h) h room ∙ rw (m .0) (ap done (m .1))
 
 -- and written so
 writes-so : (o : Order) (memory : List ℕ) → orderOk o ≡ true → length (orderFrame o) ≤ length memory

@@ -1,7 +1,7 @@
 -- Orders and the messages of the profile, each way; and what is read is an order's frame.
 use Prim.Native.Nat.{ℕ, _≤_}
 use mathlib.Core.Path.{_≡_, refl, ap, sym, _∙_, subst}
-use mathlib.Core.Bool.{Bool, true, false, cond, not}
+use mathlib.Core.Bool.{true, false}
 use mathlib.Core.List.{List, _++_}
 use native.Mathlib.Omega.{arith}
 use lib.Dec.{eqb}
@@ -9,7 +9,7 @@ use lib.ListN.{drop}
 use lib.Seq.{drop-at}
 use borrow.Author.Tests.{eqb-true, not-true}
 use Rattle.runs.specs.Runs.{Bytes}
-use Rattle.runs.proofs.Cases.{and-both}
+use Rattle.runs.proofs.Cases.{and-both, by-test}
 use Rattle.framing.specs.Answer.{Outcome, done, refused}
 use Rattle.framing.specs.Whole.{readOn}
 use Rattle.decimal.specs.Decimal.{decimal, valueOf, isNumeral}
@@ -44,7 +44,7 @@ of-profile m h =
     let a = and-both (eqb (m .kind) 1) _ h in
     let b = and-both (eqb (m .sender-port) 1) _ (a .1) in
     let d = and-both (eqb (m .receiver-port) 1) _ (b .1) in
-    let e = and-both (not (m .crc)) (isText (m .payload)) (d .1) in
+    let e = and-both _ (isText (m .payload)) (d .1) in
     let t = text-facts (m .payload) (e .1) in
     record {
       kind = eqb-true (m .kind) 1 (a .0);
@@ -92,11 +92,8 @@ order-message o h =
 -- ---- what is read
 
 done-is : (m : Message) (o : Order) → judged m ≡ done o → (inProfile m ≡ true) × (o ≡ orderOf m)
-done-is m o = go (inProfile m) refl
-  where
-    go : (t : Bool) → inProfile m ≡ t → cond t (done (orderOf m)) (refused 21) ≡ done o → (inProfile m ≡ true) × (o ≡ orderOf m)
-    go true e h = (e, cc)
-    go false e h = let z : _≡_ {A = ℕ} 0 1 = cc in absurd (omega arith)
+done-is m o = by-test (λ (x : Outcome Order). x ≡ done o → (inProfile m ≡ true) × (o ≡ orderOf m)) (inProfile m) (λ e h. (e, cc))
+    (λ _ h. let z : _≡_ {A = ℕ} 0 1 = cc in absurd (omega arith))
 
 ordered-done : (store : List ℕ) (x : Outcome Numbers.Message) (o : Order) → ordered store x ≡ done o
     → (v : Numbers.Message) × (x ≡ done v) × (inProfile (Pcs.messageOf store v) ≡ true) × (o ≡ orderOf (Pcs.messageOf store v))

@@ -11,23 +11,23 @@ use lib.Seq.{sets}
 use borrow.Author.Tests.{eq-eqb, eqb-true, eqb-false}
 use Rattle.runs.specs.Runs.{over}
 use Rattle.runs.proofs.Run.{sets-over}
-use Rattle.runs.proofs.Cases.{by-test, by-leb}
+use Rattle.runs.proofs.Cases.{by-test, by-leb, and-both}
 use Rattle.framing.specs.Answer.{Outcome, done, refused, storedAt}
 use Rattle.framing.specs.Whole.{readOn}
 use Rattle.pcs.specs.Frame.{Typed, plainOk, frame}
-use Rattle.pcs.specs.Contract.{link}
+use Rattle.pcs.specs.Contract.{link, numbersOf}
 use Rattle.pcs.proofs.Written.{frame-length}
 use Rattle.pcs.proofs.Allowed.{sendable, plain-most}
 use Rattle.pcs.proofs.Theorems.{frames-read}
 use Rattle.display.specs.Profile.{messageOf}
 use Rattle.display.specs.Reading.{reading}
-use Rattle.display.specs.End.{taking, answerTo, Reply, nothing, answer, refusal, answering, served, received, takes}
-use Rattle.display.specs.Claims.{RefusedKeeps, RefusedShort, AnswerReads, RepeatAnswered}
+use Rattle.display.specs.End.{isRepeat, showing, taking, answerTo, Reply, nothing, answer, refusal, answering, served, received, takes}
+use Rattle.display.specs.Claims.{RefusedKeeps, RefusedShort, AnswerReads, answerRead, RepeatAnswered, NewTaken, TakesInOrder}
 use Rattle.display.specs.declared.Order.{Order}
 use Rattle.display.specs.declared.Display.{Display}
 use Rattle.display.proofs.Profile.{accepted}
 use Rattle.display.proofs.Serving.{answer-ok}
-use Rattle.display.proofs.Orders.{front}
+use Rattle.display.proofs.Orders.{front, frames-judged}
 
 -- the reply and the display after, with the memory; and with the store too
 abbrev pub Doing : Type 0
@@ -123,6 +123,11 @@ pub addressed : (d : Display) (run store memory : List ℕ) (r : Reply) → take
 addressed d run store memory r h no3 =
     by-test (λ (s : Done). s .0 .0 ≡ r → plainOk (d .own) ≡ true) (plainOk (d .own)) (λ p _. p) (λ _ e. absurd (no3 (sym e))) h
 
+-- what PCS tells of the answer
+read-as : (d : Display) (o : Order) → o .receiver ≡ d .own → numbersOf (answerTo o) ≡ answerRead d o
+read-as d o h =
+    ap (λ (k : ℕ). record { receiver = o .sender; sender = k; kind = 2; number = o .number; «sender_port» = 1; «receiver_port» = 1; crc = false; length = 0 }) h
+
 pub answer-reads : AnswerReads
 answer-reads d run store memory n y h =
     let p = addressed d run store memory (answer n) h (λ e. differ (cc)) in
@@ -143,7 +148,8 @@ answer-reads d run store memory n y h =
       left = there;
       back = λ other room.
           ap (λ (l : List ℕ). readOn link l other .0) bytes
-          ∙ frames-read (answerTo o) other (answer-typed o (s .plain .sender) r (s .plain .number)) (answer-ok o (s .plain .sender) r (s .plain .number)) room .0;
+          ∙ frames-read (answerTo o) other (answer-typed o (s .plain .sender) r (s .plain .number)) (answer-ok o (s .plain .sender) r (s .plain .number)) room .0
+          ∙ ap done (read-as d o (t .own));
     }
 
 -- ---- 2, where an answer does not fit
@@ -159,6 +165,36 @@ served-short d o memory n =
 
 pub refused-short : RefusedShort
 refused-short d run store memory o n p h = rw (p, h) (served-short d o memory n)
+
+-- ---- an order that is no repeat
+
+new-shows : (d : Display) (o : Order) → (d .taken ≡ true → o .sender ≡ d .sender → o .number ≡ d .number → ⊥) → taking d o ≡ showing d o
+new-shows d o other =
+    by-test (λ (x : Display). x ≡ showing d o) (isRepeat d o)
+    (λ e. let a = and-both (d .taken) _ e in
+    let b = and-both _ _ (a .1) in
+    absurd (other (a .0) (eqb-true _ _ (b .0)) (eqb-true _ _ (b .1))))
+    (λ _. refl)
+
+served-new : (d : Display) (o : Order) (memory : List ℕ) → plainOk (d .own) ≡ true → taking d o ≡ showing d o
+    → (o .receiver ≡ d .own → 11 ≤ length memory → served d o memory .0 ≡ (answer 11, showing d o))
+    × (o .receiver ≡ 255 → served d o memory .0 ≡ (nothing, showing d o))
+served-new d o memory p shows =
+    let e = eleven o in
+    let few = plain-most (d .own) p in
+    served-by d o memory
+    (λ (s : Doing). (o .receiver ≡ d .own → 11 ≤ length memory → s .0 ≡ (answer 11, showing d o)) × (o .receiver ≡ 255 → s .0 ≡ (nothing, showing d o)))
+    (eqb (o .receiver) (d .own)) (eqb (o .receiver) 255)
+    (λ _ t. (λ _ _. ap₂ (λ (k : ℕ) (x : Display). (answer k, x)) e shows, λ all. absurd (omega (arith, eqb-true (o .receiver) (d .own) t))))
+    (λ l t. (λ _ fits. absurd (omega arith), λ all. absurd (omega (arith, eqb-true (o .receiver) (d .own) t))))
+    (λ t. (
+      λ own. absurd (eqb-false (o .receiver) (d .own) t own),
+      λ all. ap (λ (x : Display). (nothing, x))
+          (by-test (λ (x : Display). x ≡ showing d o) (eqb (o .receiver) 255) (λ _. shows) (λ f. absurd (eqb-false (o .receiver) 255 f all))),
+    ))
+
+pub new-taken : NewTaken
+new-taken d run store memory o p h other = rw (p, h) (served-new d o memory p (new-shows d o other))
 
 -- ---- a repeat
 
@@ -179,3 +215,15 @@ served-repeat d o memory stays =
 
 pub repeat-answered : RepeatAnswered
 repeat-answered d run store memory o p h t s n = rw (p, h) (served-repeat d o memory (repeat-stays d o t s n))
+
+-- ---- the order of refusals
+
+pub takes-in-order : TakesInOrder
+takes-in-order d run store memory =
+    record {
+      own-first = λ p. rw p;
+      then-pcs = λ p n h. rw (p, h);
+      then-outside = λ p m f t o room out. rw p
+          (ap (λ (x : Outcome Order). received d x memory .0 .0) (ap (λ (r : List ℕ). reading r store .0) f ∙ frames-judged m store t o room .1 out));
+      store-left = λ p. rw p;
+    }

@@ -17,7 +17,7 @@ use Rattle.display.specs.declared.Order.{Order}
 use Rattle.display.specs.declared.Display.{Display}
 
 pub answer-ok : (o : Order) → plainOk (o .sender) ≡ true → plainOk (o .receiver) ≡ true → plainOk (o .number) ≡ true → ok (answerTo o) ≡ true
-answer-ok o s r n = rw (s, r, n)
+answer-ok o s r n = simp (s, r, n)
 
 pub served-own : (d : Display) (o : Order) (memory after : List ℕ) (t : Reply × Display) (a : Outcome ℕ) → plainOk (d .own) ≡ true
     → plainOk (o .sender) ≡ true → plainOk (o .number) ≡ true → o .receiver ≡ d .own → t ≡ answering d o a

@@ -1,6 +1,6 @@
 -- What is claimed of orders and of the display's end.
-use Rattle.display.specs.Claims.{ProfileIs, WrittenReads, AcceptedWritten, FramesJudged, ReadsGive, TakesGive, WritesGive}
-use Rattle.display.specs.Claims.{ShownLast, ShownExamples, RefusedKeeps, RefusedShort, AnswerReads, RepeatAnswered}
+use Rattle.display.specs.Claims.{ProfileIs, WrittenReads, AcceptedWritten, FramesJudged, Limits, ReadsGive, TakesGive, WritesGive}
+use Rattle.display.specs.Claims.{ShownLast, ShownExamples, RefusedKeeps, RefusedShort, AnswerReads, RepeatAnswered, NewTaken, TakesInOrder}
 use Rattle.display.specs.Claims.{OthersPass, TakenOnce, ShowsOrdered, Printed}
 use Rattle.display.proofs.Orders as orders
 use Rattle.display.proofs.Numbers as numbers
@@ -26,6 +26,10 @@ accepted-written = orders.accepted-written
 pub frames-judged : FramesJudged
 frames-judged = orders.frames-judged
 
+-- how large a value may be
+pub limits : Limits
+limits = orders.limits
+
 -- which numbers a read, a take and a write are refused with
 pub reads-give : ReadsGive
 reads-give = numbers.reads-give
@@ -43,6 +47,10 @@ shown-last = places.shown-last
 pub shown-examples : ShownExamples
 shown-examples = places.shown-examples
 
+-- in which order it is refused, and what is left in the store
+pub takes-in-order : TakesInOrder
+takes-in-order = served.takes-in-order
+
 -- every refusal leaves the display as it was
 pub refused-keeps : RefusedKeeps
 refused-keeps = served.refused-keeps
@@ -58,6 +66,10 @@ answer-reads = served.answer-reads
 -- a repeat is answered, and not shown again
 pub repeat-answered : RepeatAnswered
 repeat-answered = served.repeat-answered
+
+-- any other is taken, and shown
+pub new-taken : NewTaken
+new-taken = served.new-taken
 
 -- frames for others change nothing
 pub others-pass : OthersPass

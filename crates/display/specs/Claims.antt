@@ -2,7 +2,7 @@
 use Prim.Native.Nat.{ℕ, _-_, _≤_, _<_}
 use mathlib.Core.Path.{_≡_}
 use mathlib.Core.Logic.{_↔_}
-use mathlib.Core.Bool.{true, _||_}
+use mathlib.Core.Bool.{true, false, _||_}
 use mathlib.Core.List.{List, [], _∷_, _++_}
 use lib.Dec.{eqb}
 use lib.ListN.{length, take, replicate}
@@ -15,10 +15,11 @@ use Rattle.framing.specs.Refusals.{isIn}
 use Rattle.decimal.specs.Decimal.{decimal}
 use Rattle.pcs.specs.Frame.{Message, Typed, ok, frame, plainOk}
 use Rattle.pcs.specs.Rules.{size}
-use Rattle.pcs.specs.Contract.{link, numbersOf}
-use Rattle.display.specs.Profile.{largest, messageOf, orderOk, orderFrame, inProfile}
-use Rattle.display.specs.Reading.{judged, reading}
-use Rattle.display.specs.End.{lastThree, shownOf, freshDisplay, showing, taking, answerTo, Reply, answer, refusal, takes}
+use Rattle.pcs.specs.Contract.{link}
+use Rattle.pcs.specs.declared.Message as Read
+use Rattle.display.specs.Profile.{largest, messageOf, orderOk, orderFrame, inProfile, orderOf}
+use Rattle.display.specs.Reading.{reading}
+use Rattle.display.specs.End.{lastThree, shownOf, freshDisplay, showing, taking, answerTo, Reply, nothing, answer, refusal, takes}
 use Rattle.display.specs.declared.Order.{Order}
 use Rattle.display.specs.declared.Display.{Display}
 
@@ -45,7 +46,14 @@ AcceptedWritten =
 -- of the frames of PCS those of the profile are read as their orders, and every other gives 21, whoever it is for
 abbrev pub FramesJudged : Type 0
 FramesJudged =
-    (m : Message) (store : List ℕ) → Typed m → ok m ≡ true → size ≤ length store → reading (frame m) store .0 ≡ judged m
+    (m : Message) (store : List ℕ) → Typed m → ok m ≡ true → size ≤ length store
+    → (inProfile m ≡ true → reading (frame m) store .0 ≡ done (orderOf m)) × (inProfile m ≡ false → reading (frame m) store .0 ≡ refused 21)
+
+-- 99,999,999 is the largest value: an order for it may be sent, and one for a value more may not
+abbrev pub Limits : Type 0
+Limits =
+    (orderOk (record { receiver = 1; sender = 1; number = 1; value = 99999999 }) ≡ true)
+    × ((o : Order) → 100000000 ≤ o .value → orderOk o ≡ false)
 
 -- ---- the numbers of refusals
 
@@ -96,6 +104,18 @@ ShownExamples =
 
 -- ---- the display's end
 
+-- in this order: 3 for an own address that is not allowed, where neither run, store nor memory is looked at; what PCS refuses, with its number, and
+-- then every message outside the profile with 21. The store is always as the read of PCS leaves it, but for 3
+pub record InOrder (d : Display) (run store memory : List ℕ) : Type 0 where
+  pub own-first : plainOk (d .own) ≡ false → takes d run store memory ≡ ((refusal 3, d), store, memory)
+  pub then-pcs : plainOk (d .own) ≡ true → (n : ℕ) → readOn link run store .0 ≡ refused n → takes d run store memory .0 .0 ≡ refusal n
+  pub then-outside : plainOk (d .own) ≡ true → (m : Message) → run ≡ frame m → Typed m → ok m ≡ true → size ≤ length store → inProfile m ≡ false
+      → takes d run store memory .0 .0 ≡ refusal 21
+  pub store-left : plainOk (d .own) ≡ true → takes d run store memory .1 ≡ readOn link run store .1
+
+abbrev pub TakesInOrder : Type 0
+TakesInOrder = (d : Display) (run store memory : List ℕ) → InOrder d run store memory
+
 -- every refusal leaves the whole display, and the memory for the answer, as they were
 abbrev pub RefusedKeeps : Type 0
 RefusedKeeps =
@@ -110,6 +130,19 @@ RefusedShort =
 
 -- the answer reads back. Where one of n bytes is given, the run was read as an order for this display, which is taken; the answer is 11 bytes at
 -- the start of the memory, and PCS reads them as kind 2 without CRC, the order's number, ports 1 and turned addresses
+abbrev pub answerRead : Display → Order → Read.Message
+answerRead d o =
+    record {
+      receiver = o .sender;
+      sender = d .own;
+      kind = 2;
+      number = o .number;
+      «sender_port» = 1;
+      «receiver_port» = 1;
+      crc = false;
+      length = 0;
+    }
+
 pub record Answered (d : Display) (run store memory : List ℕ) (n : ℕ) : Type 0 where
   pub order : Order
   pub read : reading run store .0 ≡ done order
@@ -117,7 +150,7 @@ pub record Answered (d : Display) (run store memory : List ℕ) (n : ℕ) : Type
   pub count : n ≡ 11
   pub after : takes d run store memory .0 .1 ≡ taking d order
   pub left : takes d run store memory .2 ≡ over (frame (answerTo order)) memory
-  pub back : (other : List ℕ) → size ≤ length other → readOn link (take n (takes d run store memory .2)) other .0 ≡ done (numbersOf (answerTo order))
+  pub back : (other : List ℕ) → size ≤ length other → readOn link (take n (takes d run store memory .2)) other .0 ≡ done (answerRead d order)
 
 abbrev pub AnswerReads : Type 0
 AnswerReads =
@@ -132,6 +165,15 @@ RepeatAnswered =
     → (takes d run store memory .0 .1 ≡ d)
     × (o .receiver ≡ d .own → 11 ≤ length memory
     → (takes d run store memory .0 .0 ≡ answer 11) × (takes d run store memory .2 ≡ over (frame (answerTo o)) memory))
+
+-- any other order is taken, one for this display where its answer fits, which is given, one for everybody without an answer: it is then the last one
+-- taken, and its value is shown
+abbrev pub NewTaken : Type 0
+NewTaken =
+    (d : Display) (run store memory : List ℕ) (o : Order) → plainOk (d .own) ≡ true → reading run store .0 ≡ done o
+    → (d .taken ≡ true → o .sender ≡ d .sender → o .number ≡ d .number → ⊥)
+    → (o .receiver ≡ d .own → 11 ≤ length memory → takes d run store memory .0 ≡ (answer 11, showing d o))
+    × (o .receiver ≡ 255 → takes d run store memory .0 ≡ (nothing, showing d o))
 
 -- a call of the display's end: the run, the store and the memory lent
 pub record Call : Type 0 where

@@ -5,7 +5,8 @@ use mathlib.Core.List.{List}
 use Rattle.framing.specs.Answer.{Outcome, done, refused}
 use Rattle.framing.specs.Whole.{readOn}
 use Rattle.pcs.specs.Frame as Pcs
-use Rattle.pcs.specs.Contract.{link, messageOf}
+use Rattle.pcs.specs.Contract.{link}
+use Rattle.pcs.specs.Contract as Contract
 use Rattle.pcs.specs.declared.Message.{Message}
 use Rattle.display.specs.Profile.{inProfile, orderOf}
 use Rattle.display.specs.declared.Order.{Order}
@@ -16,7 +17,7 @@ judged m = cond (inProfile m) (done (orderOf m)) (refused 21)
 
 -- what PCS answers of the run comes first; a message has its data in the store that this call left
 abbrev pub ordered : List ℕ → Outcome Message → Outcome Order
-ordered store (done v) = judged (messageOf store v)
+ordered store (done v) = judged (Contract.messageOf store v)
 ordered store (refused n) = refused n
 
 -- the answer, and the store afterwards, which is as PCS leaves it on every path

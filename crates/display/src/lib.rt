@@ -35,6 +35,9 @@ const ANSWER: u8 = 2;
 // Both ports of the profile.
 const PORT: u8 = 1;
 
+// Whether an order and its answer have a CRC.
+const CRC: bool = false;
+
 // What an order tells: who it is for and from, its number, and the value to be shown.
 pub struct Order {
     pub receiver: u8,
@@ -90,7 +93,7 @@ pub fn write(value: u32, receiver: u8, sender: u8, number: u8, out: &mut [u8]) -
         number,
         PORT,
         PORT,
-        false,
+        CRC,
         &data[0..end],
         out,
     )
@@ -251,7 +254,7 @@ fn serve(display: Display, order: Order, out: &mut [u8]) -> Taken
             order.number,
             PORT,
             PORT,
-            false,
+            CRC,
             b"",
             out,
         );

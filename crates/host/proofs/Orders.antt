@@ -2,12 +2,11 @@
 use Prim.Native.Nat.{ℕ, _^_, _≤_, _<_}
 use mathlib.Core.Path.{_≡_, refl, ap, sym, _∙_}
 use mathlib.Core.Bool.{Bool, true, not, _&&_, false≢true}
-use mathlib.Core.List.{List, [], _∷_}
+use mathlib.Core.List.{List}
 use native.Mathlib.Omega.{arith}
-use lib.Dec.{eqb, leb, lit<}
-use lib.ListN.{length, getD, length-append}
+use lib.Dec.{eqb, leb}
+use lib.ListN.{length, length-append}
 use borrow.Author.Tests.{leb-true}
-use Rattle.runs.specs.Runs.{Bytes}
 use Rattle.runs.proofs.Cases.{and-both}
 use Rattle.framing.specs.Answer.{Outcome, done, refused, faultOf}
 use Rattle.framing.specs.Writer.{writes}
@@ -27,8 +26,7 @@ use Rattle.display.proofs.Places.{shown-bytes}
 use Rattle.display.proofs.Numbers.{read-listed}
 use Rattle.display.proofs.Theorems.{writes-give}
 use Rattle.host.specs.Read.{encode, refusalOf}
-use Rattle.host.specs.Write.{int32Of}
-use Rattle.host.specs.Display.{orderCode, orderRead, placesCode, receiverOf, senderOf, numberOf, valueOf, placeOf}
+use Rattle.host.specs.Display.{orderCode, orderRead, receiverOf, senderOf, numberOf, valueOf}
 use Rattle.host.specs.Claims.{OrderPart, OrderCalls}
 use Rattle.host.proofs.Packed.{field-at}
 use Rattle.host.proofs.Refusals.{minus-eleven}

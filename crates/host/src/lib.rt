@@ -81,7 +81,7 @@ pub extern "C" fn linebox_pcs_write(
         sender_port,
         receiver_port,
         crc == 1,
-        data,
+        &data[..], // not `data`: handed on as it came, its two words are copied in one load, which waits for the caller's two stores
         out,
     ))
 }

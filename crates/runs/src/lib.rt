@@ -59,7 +59,7 @@ pub fn put_number(out: &mut [u8], at: usize, size: usize, n: u32)
     }
 }
 
-// Whether a byte lies from low to high: it is one of the marks, or of any such bytes.
+// Whether a byte lies from low to high, both included: as the marks do, or digits.
 pub fn is_between(low: u8, high: u8, byte: u8) -> bool
     ensures { λ r. ⌜ r ≡ between low high byte ⌝ }
 {
