@@ -15,7 +15,8 @@ size_t bench_pack(const uint8_t *data, size_t n, uint8_t *out, size_t room);
 size_t bench_unpack(uint8_t *store, size_t size, size_t from, size_t count);
 
 const struct side linebox = {"linebox", bench_crc16, bench_crc32, bench_sum, bench_pack, bench_unpack, linebox_pcs_write, linebox_mdu_write,
-    linebox_dle_write, linebox_expansion_write, linebox_pcs_read, linebox_mdu_read, linebox_dle_read, linebox_expansion_read};
+    linebox_dle_write, linebox_expansion_write, linebox_pcs_read, linebox_mdu_read, linebox_dle_read, linebox_expansion_read,
+    linebox_display_write, linebox_display_read, linebox_display_shown};
 
 static uint32_t zlib_crc32(const uint8_t *p, size_t n) { return (uint32_t)crc32(0, p, (uInt)n); }
 static const struct side zlib = {.way = "zlib", .crc32 = zlib_crc32};
@@ -31,9 +32,12 @@ static size_t block;                                  /* how many bytes of a run
 /* Unpacking needs its bytes in the store: they are laid there anew each time, on every side. */
 static size_t unpacked(const struct side *s, const uint8_t *p, size_t n) { memcpy(store, p, n); return s->unpack(store, sizeof store, 8, n - 8); }
 
+/* An order to be written is its value, in four bytes, receiver, sender and number. The length of such an input counts the digits of the value. */
+static uint32_t value_at(const uint8_t *p) { uint32_t v; memcpy(&v, p, 4); return v; }
+
 #define WORK(name, writes, f, call) \
     static void (*f##_entry(const struct side *s))(void) { return (void (*)(void))s->f; } \
-    static uint64_t f##_run(const struct side *s, const uint8_t *p, size_t n) { return (uint64_t)(call); } \
+    static uint64_t f##_run(const struct side *s, const uint8_t *p, size_t n) { (void)n; return (uint64_t)(call); } \
     static const struct work f##_work = {name, writes, f##_entry, f##_run};
 WORK("CRC-16", 0, crc16, s->crc16(start, p, n))
 WORK("CRC-32", 0, crc32, s->crc32(p, n))
@@ -48,6 +52,9 @@ WORK("PCS read", 0, pcs_read, s->pcs_read(p, n, store, size))
 WORK("MDU read", 0, mdu_read, s->mdu_read(p, n, store, size))
 WORK("DLE read", 0, dle_read, s->dle_read(p, n, store, size))
 WORK("expansion read", 0, expansion_read, s->expansion_read(p, n, store, size))
+WORK("display write", 1, display_write, s->display_write(value_at(p), p[4], p[5], p[6], out, room))
+WORK("display read", 0, display_read, s->display_read(p, n, store, size))
+WORK("display shown", 0, display_shown, s->display_shown(value_at(p)))
 
 /* PCS with a CRC is written and read by the same functions. */
 static uint64_t pcs_write_crc_run(const struct side *s, const uint8_t *p, size_t n) {
@@ -87,6 +94,23 @@ static void payloads(size_t n, int byte) {
     }
 }
 
+static uint32_t power_of_ten(size_t k) { uint32_t v = 1; while (k--) v *= 10; return v; }
+
+static void put_order(uint8_t *p, uint32_t value, uint8_t receiver, uint8_t sender, uint8_t number) {
+    memcpy(p, &value, 4);
+    p[4] = receiver; p[5] = sender; p[6] = number;
+}
+
+/* In place of the payloads orders with values of so many digits. */
+static void orders(size_t digits) {
+    uint32_t least = power_of_ten(digits - 1);
+    state = SEED;
+    for (int k = 0; k < INPUTS; k++) {
+        put_order(memory[k], least + (uint32_t)(next() % (9 * (uint64_t)least)), 2, 250, 4);
+        inputs[k] = (struct input){memory[k], digits};
+    }
+}
+
 /* In place of the payloads what linebox makes of them: frames, or packed bytes from place 8 on. */
 static void made(const struct work *writer, size_t before) {
     for (int k = 0; k < INPUTS; k++) {
@@ -109,6 +133,17 @@ static void pcs_mended(uint8_t *frame, size_t n) {
     frame[n - 1] = 254;
 }
 
+/* A PCS frame that is an order, or is none by one part or another of its message: so that every test of the profile is reached. */
+static size_t near_order(uint8_t *frame) {
+    uint8_t data[15] = "CLCSH";
+    size_t n = next() % 4 ? 5 + next() % 10 : next() % 6;
+    for (size_t i = 5; i < 15; i++) data[i] = (uint8_t)('0' + next() % 10);
+    if (next() % 4 == 0) data[next() % 15] = (uint8_t)(next() % 2 ? next() : '/' + next() % 12);
+    uint8_t kind = (uint8_t)(next() % 4 ? 1 : next() % (n ? 2 : 4)), crc = next() % 8 == 0;
+    uint8_t sender_port = next() % 8 ? 1 : 2, receiver_port = next() % 8 ? 1 : 2;
+    return (size_t)linebox.pcs_write(2, 250, kind, 4, sender_port, receiver_port, crc, data, n, frame, LONGEST);
+}
+
 /* The sides agree on the inputs damaged in some bytes, cut or lengthened, and in less memory too: so on what is refused. */
 static void damaged(const struct work *w, size_t least) {
     static uint8_t wrong[LONGEST + 1];
@@ -118,7 +153,9 @@ static void damaged(const struct work *w, size_t least) {
         for (size_t i = next() % 4; i > 0; i--) wrong[next() % n] = (uint8_t)(next() % 2 ? next() : next() % 2 ? 16 : 253 + next() % 3);
         if (next() % 4 == 0) n = least + next() % (n + 1 - least);
         else if (next() % 4 == 0) wrong[n++] = (uint8_t)next();
-        if (w->entry == pcs_read_entry && next() % 2) pcs_mended(wrong, n);
+        int order = w->entry == display_read_entry;
+        if (order && next() % 2) n = near_order(wrong);
+        else if ((order || w->entry == pcs_read_entry) && next() % 2) pcs_mended(wrong, n);
         room = next() % 4 ? sizeof out : next() % LONGEST;
         size = next() % 8 ? sizeof store : next() % sizeof store;
         start = (uint16_t)(k * 40503);
@@ -127,6 +164,18 @@ static void damaged(const struct work *w, size_t least) {
     room = sizeof out;
     size = sizeof store;
     start = 0;
+}
+
+/* The sides agree on values of any size and those beside a power of ten, with any fields, and in less memory: so on what is refused. */
+static void other_orders(const struct work *w) {
+    for (int k = 0; k < 100 * INPUTS; k++) {
+        uint8_t order[7];
+        uint32_t value = next() % 2 ? (uint32_t)next() >> next() % 32 : power_of_ten(next() % 10) + (uint32_t)(next() % 3) - 1;
+        put_order(order, value, next() % 8 ? 255 : (uint8_t)next(), next() % 8 ? 250 : (uint8_t)next(), next() % 8 ? 4 : (uint8_t)next());
+        room = next() % 2 ? sizeof out : next() % (LINEBOX_DISPLAY_LONGEST + 1);
+        agree(w, &(struct input){order, sizeof order}, 1);
+    }
+    room = sizeof out;
 }
 
 static void row(const char *name, const struct work *w, size_t n, int byte) {
@@ -147,6 +196,19 @@ static void noise_row(const char *name, const struct work *w, size_t n) {
     static uint8_t noise[NOISE];
     for (size_t i = 0; i < n; i++) do noise[i] = (uint8_t)next(); while (noise[i] == 253 || noise[i] == 0xE3 || noise[i] == 16);
     measure(name, w, &(struct input){noise, n}, 1);
+}
+
+static void order_row(const char *name, const struct work *w, size_t digits) {
+    orders(digits);
+    other_orders(w);
+    measure(name, w, inputs, INPUTS);
+}
+
+static void order_row_of(const char *name, const struct work *w, size_t digits) {
+    orders(digits);
+    made(&display_write_work, 0);
+    damaged(w, 0);
+    measure(name, w, inputs, INPUTS);
 }
 
 static void blocks_row(const char *name, size_t of) {
@@ -187,6 +249,15 @@ static void dle_frames(size_t n) {
     row_of("DLE read", &dle_read_work, &dle_write_work, n, ANY);
 }
 
+static void display(void) {
+    static const size_t written[] = {1, 5, 8}, shown[] = {1, 3, 5};
+    for (size_t i = 0; i < sizeof written / sizeof *written; i++) {
+        order_row("display write", &display_write_work, written[i]);
+        order_row_of("display read", &display_read_work, written[i]);
+    }
+    for (size_t i = 0; i < sizeof shown / sizeof *shown; i++) order_row("display shown", &display_shown_work, shown[i]);
+}
+
 int main(int argc, char **argv) {
     for (int c = 0; c < COMPILERS && c + 1 < argc; c++) {
         void *library = dlopen(argv[c + 1], RTLD_NOW);
@@ -207,6 +278,7 @@ int main(int argc, char **argv) {
         noise_row("DLE, noise", &dle_read_work, n);
         noise_row("expansion, noise", &expansion_read_work, n);
     }
+    display();
     print_tables();
     return 0;
 }

@@ -44,4 +44,12 @@ static inline void pcs_put_crc(uint8_t *p, uint16_t c) {
     p[2] = pcs_sent((uint8_t)(c >> 14));
 }
 static inline int pcs_same_crc(const uint8_t *p, uint16_t c) { uint8_t sent[3]; pcs_put_crc(sent, c); return !memcmp(p, sent, 3); }
+
+/* The display: whether a PCS message is an order, its digits still to be looked at one by one, and the answer to an order. */
+static inline size_t display_digits(uint64_t r) { return (r >> 8 & 0xFFF) - 5; }
+static inline int display_fits(uint64_t r, const uint8_t *data) {
+    size_t n = display_digits(r);
+    return (r >> 20 & 7) == 1 && r >> 48 == 0x0101 && n >= 1 && n <= 8 && !memcmp(data, "CLCSH", 5) && (n == 1 || data[5] != '0');
+}
+static inline uint64_t display_answer(uint64_t r, uint32_t value) { return (r >> 24 & 0xFFFFFF) << 8 | (uint64_t)value << 32; }
 #endif

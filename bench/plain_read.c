@@ -111,5 +111,23 @@ uint64_t plain_expansion_read(const uint8_t *frame, size_t n, uint8_t *store, si
     return 6;
 }
 
-SIDE plain_read = {.way = "plain", .pcs_read = plain_pcs_read, .mdu_read = plain_mdu_read,
-    .dle_read = plain_dle_read, .expansion_read = plain_expansion_read};
+uint64_t plain_display_read(const uint8_t *frame, size_t n, uint8_t *store, size_t size) {
+    uint64_t r = plain_pcs_read(frame, n, store, size);
+    if (r & 255) return r;
+    if (!display_fits(r, store)) return 21;
+    uint32_t value = 0;
+    for (size_t i = 0; i < display_digits(r); i++) {
+        uint8_t b = store[5 + i];
+        if (b < '0' || b > '9') return 21;
+        value = value * 10 + (b - '0');
+    }
+    return display_answer(r, value);
+}
+
+uint32_t plain_display_shown(uint32_t value) {
+    uint32_t left = value > 99 ? '0' + value / 100 % 10 : ' ', middle = value > 9 ? '0' + value / 10 % 10 : ' ';
+    return left | middle << 8 | ('0' + value % 10) << 16;
+}
+
+SIDE plain_read = {.way = "plain", .pcs_read = plain_pcs_read, .mdu_read = plain_mdu_read, .dle_read = plain_dle_read,
+    .expansion_read = plain_expansion_read, .display_read = plain_display_read, .display_shown = plain_display_shown};

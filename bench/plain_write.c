@@ -73,5 +73,14 @@ int32_t plain_expansion_write(uint8_t id, uint8_t type, uint8_t repeat, uint8_t 
     return (int32_t)(p - out);
 }
 
+int32_t plain_display_write(uint32_t value, uint8_t receiver, uint8_t sender, uint8_t number, uint8_t *out, size_t room) {
+    if (value > 99999999) return -3;
+    uint8_t data[13], *end = data + 13, *p = end;
+    do *--p = (uint8_t)('0' + value % 10); while (value /= 10);
+    p -= 5;
+    memcpy(p, "CLCSH", 5);
+    return plain_pcs_write(receiver, sender, 1, number, 1, 1, 0, p, (size_t)(end - p), out, room);
+}
+
 SIDE plain_write = {.way = "plain", .pcs_write = plain_pcs_write, .mdu_write = plain_mdu_write,
-    .dle_write = plain_dle_write, .expansion_write = plain_expansion_write};
+    .dle_write = plain_dle_write, .expansion_write = plain_expansion_write, .display_write = plain_display_write};

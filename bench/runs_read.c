@@ -120,5 +120,17 @@ uint64_t runs_expansion_read(const uint8_t *frame, size_t n, uint8_t *store, siz
     return 6;
 }
 
+/* The digits in one word, the last highest and zeros below the first: joined to twos, fours and all eight by products. */
+uint64_t runs_display_read(const uint8_t *frame, size_t n, uint8_t *store, size_t size) {
+    uint64_t r = runs_pcs_read(frame, n, store, size);
+    if (r & 255) return r;
+    if (!display_fits(r, store)) return 21;
+    uint64_t w = (load8(store + 5) ^ EACH('0')) << (8 * (8 - display_digits(r)));
+    if ((w | (w + EACH(0x76))) & EACH(0x80)) return 21;
+    w = (w * 10 + (w >> 8)) & 0x00FF00FF00FF00FFu;
+    w = (w * 100 + (w >> 16)) & 0x0000FFFF0000FFFFu;
+    return display_answer(r, (uint32_t)(w * 10000 + (w >> 32)));
+}
+
 SIDE runs_read = {.way = "by runs", .pcs_read = runs_pcs_read, .mdu_read = runs_mdu_read,
-    .dle_read = runs_dle_read, .expansion_read = runs_expansion_read};
+    .dle_read = runs_dle_read, .expansion_read = runs_expansion_read, .display_read = runs_display_read};

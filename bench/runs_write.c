@@ -94,5 +94,19 @@ int32_t runs_expansion_write(uint8_t id, uint8_t type, uint8_t repeat, uint8_t a
     return (int32_t)(p - out);
 }
 
+/* Eight digits in one word, the first lowest: cut into fours, twos and ones by products; the zeros before the first that counts are shifted out. */
+int32_t runs_display_write(uint32_t value, uint8_t receiver, uint8_t sender, uint8_t number, uint8_t *out, size_t room) {
+    if (value > 99999999) return -3;
+    uint64_t w = value / 10000 | (uint64_t)(value % 10000) << 32;
+    uint64_t high = (w * 5243 >> 19) & 0x0000007F0000007Fu;
+    w = high | (w - high * 100) << 16;
+    high = (w * 103 >> 10) & 0x000F000F000F000Fu;
+    w = high | (w - high * 10) << 8;
+    size_t zeros = (size_t)__builtin_ctzll(w | 1ull << 56) >> 3;
+    uint8_t data[13] = "CLCSH";
+    store8(data + 5, (w | EACH('0')) >> (8 * zeros));
+    return runs_pcs_write(receiver, sender, 1, number, 1, 1, 0, data, 13 - zeros, out, room);
+}
+
 SIDE runs_write = {.way = "by runs", .pcs_write = runs_pcs_write, .mdu_write = runs_mdu_write,
-    .dle_write = runs_dle_write, .expansion_write = runs_expansion_write};
+    .dle_write = runs_dle_write, .expansion_write = runs_expansion_write, .display_write = runs_display_write};

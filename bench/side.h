@@ -22,5 +22,8 @@ struct side {
     uint64_t (*mdu_read)(const uint8_t *frame, size_t n, uint8_t *store, size_t size);
     uint64_t (*dle_read)(const uint8_t *frame, size_t n, uint8_t *store, size_t size);
     uint64_t (*expansion_read)(const uint8_t *frame, size_t n, uint8_t *store, size_t size);
+    int32_t (*display_write)(uint32_t value, uint8_t receiver, uint8_t sender, uint8_t number, uint8_t *out, size_t room);
+    uint64_t (*display_read)(const uint8_t *frame, size_t n, uint8_t *store, size_t size);
+    uint32_t (*display_shown)(uint32_t value);
 };
 #endif
