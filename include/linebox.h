@@ -48,7 +48,7 @@ extern "C" {
 enum {
     LINEBOX_STORE_SHORT = 1,    /* read: the store is shorter than LINEBOX_.._STORE */
     LINEBOX_OUTPUT_SHORT = 2,   /* write: `out` is shorter than the frame */
-    LINEBOX_UNSENDABLE = 3,     /* write: a field or a length that the link does not allow */
+    LINEBOX_UNSENDABLE = 3,     /* write: a field or a length that the link does not allow, a value above LINEBOX_DISPLAY_MOST */
     LINEBOX_NEW_START = 4,      /* read: a new start mark inside the frame (not on MDU) */
     LINEBOX_TOO_LONG = 5,       /* read: more bytes in the frame than the link allows (not on MDU) */
     LINEBOX_TOO_SHORT = 6,      /* read: the frame ends too early, or the bytes are not one whole frame */
