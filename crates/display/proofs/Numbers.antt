@@ -20,6 +20,7 @@ use Rattle.pcs.specs.Rules.{size}
 use Rattle.pcs.specs.Contract.{link, messageOf}
 use Rattle.pcs.specs.Claims.{streamNumbers}
 use Rattle.pcs.specs.declared.Message as Told
+use Rattle.pcs.proofs.Typed.{typed}
 use Rattle.pcs.proofs.Lawful.{lawful}
 use Rattle.pcs.proofs.Numbers.{given}
 use Rattle.display.specs.Profile.{orderFrame, inProfile}
@@ -30,10 +31,7 @@ use Rattle.display.specs.Claims.{readRefusals, takeRefusals, ReadGives, 
 use Rattle.display.specs.declared.Order.{Order}
 use Rattle.display.specs.declared.Display.{Display}
 use Rattle.display.proofs.Orders.{frame-read, order-typed, order-reads}
-use Rattle.display.proofs.Served.{Done, served-short, refused-short}
-
-differ : {A : Type 0} → _≡_ {A = ℕ} 0 1 → A
-differ e = absurd (omega arith)
+use Rattle.display.proofs.Served.{Done, differ, served-short, refused-short}
 
 -- ---- reads
 
@@ -63,16 +61,7 @@ plain = withFields 1 1 0 1 1 1 false []
 
 plain-typed : Typed plain
 unfolding plain
-plain-typed =
-    record {
-      receiver = lit< tt;
-      sender = lit< tt;
-      kind = lit< tt;
-      number = lit< tt;
-      sender-port = lit< tt;
-      receiver-port = lit< tt;
-      payload = λ i. lit< tt;
-    }
+plain-typed = typed plain refl (λ i. lit< tt)
 
 outside : ReadGives 21
 unfolding plain

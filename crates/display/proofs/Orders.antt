@@ -1,13 +1,13 @@
 -- Orders and their frames: written, read back, and judged.
-use Prim.Native.Nat.{ℕ, zero, suc, _≤_, _<_}
+use Prim.Native.Nat.{ℕ, zero, suc, _≤_}
 use mathlib.Core.Path.{_≡_, refl, ap, sym, _∙_, subst}
-use mathlib.Core.Bool.{Bool, true, false, _||_}
+use mathlib.Core.Bool.{true}
 use mathlib.Core.List.{List, [], _∷_}
 use native.Mathlib.Omega.{arith}
-use lib.Dec.{eqb, leb, lit<}
+use lib.Dec.{leb, lit<}
 use lib.ListN.{length, take, drop}
 use lib.Seq.{take-at}
-use borrow.Author.Tests.{le-leb, lt-leb, leb-true, eqb-true}
+use borrow.Author.Tests.{le-leb, lt-leb, leb-true}
 use Rattle.runs.specs.Runs.{Bytes, over}
 use Rattle.runs.proofs.Bytes.{bytes-append}
 use Rattle.runs.proofs.Run.{sets-over}
@@ -19,10 +19,10 @@ use Rattle.framing.specs.Refusals.{isIn}
 use Rattle.framing.proofs.Stored.{by-writer, writes-done}
 use Rattle.decimal.specs.Decimal.{decimal, decimalOf}
 use Rattle.decimal.proofs.Value.{decimal-bytes}
-use Rattle.pcs.specs.Frame.{Message, Typed, plainOk, receiverOk, ok, frame}
+use Rattle.pcs.specs.Frame.{Message, Typed, ok, frame}
 use Rattle.pcs.specs.Rules.{size}
 use Rattle.pcs.specs.Contract.{link}
-use Rattle.pcs.proofs.Allowed.{sendable, plain-most}
+use Rattle.pcs.proofs.Typed.{typed}
 use Rattle.pcs.proofs.Theorems.{frames-read}
 use Rattle.display.specs.Profile.{word, largest, messageOf, orderOk, orderFrame, inProfile, orderOf}
 use Rattle.display.specs.Reading.{judged, ordered, reading}
@@ -50,25 +50,8 @@ word-bytes (suc (suc (suc zero))) = lit< tt
 word-bytes (suc (suc (suc (suc zero)))) = lit< tt
 word-bytes (suc (suc (suc (suc (suc i))))) = lit< tt
 
-receiver-most : (b : ℕ) → receiverOk b ≡ true → b < 256
-receiver-most b = go (plainOk b) refl
-  where
-    go : (t : Bool) → plainOk b ≡ t → t || eqb b 255 ≡ true → b < 256
-    go true e h = omega (arith, plain-most b e)
-    go false e h = omega (arith, eqb-true b 255 h)
-
 pub order-typed : (o : Order) → ok (messageOf o) ≡ true → Typed (messageOf o)
-order-typed o h =
-    let s = sendable (messageOf o) h in
-    record {
-      receiver = receiver-most (o .receiver) (s .plain .receiver);
-      sender = omega (arith, plain-most (o .sender) (s .plain .sender));
-      kind = lit< tt;
-      number = omega (arith, plain-most (o .number) (s .plain .number));
-      sender-port = lit< tt;
-      receiver-port = lit< tt;
-      payload = bytes-append word (decimal (o .value)) word-bytes (decimal-bytes (o .value));
-    }
+order-typed o h = typed (messageOf o) h (bytes-append word (decimal (o .value)) word-bytes (decimal-bytes (o .value)))
 
 -- an order's frame is read as the order
 pub order-reads : (o : Order) (store : List ℕ) → o .value ≤ largest → ok (messageOf o) ≡ true → size ≤ length store → reading (orderFrame o) store .0 ≡ done o

@@ -14,15 +14,16 @@ use Rattle.runs.proofs.Run.{sets-over}
 use Rattle.runs.proofs.Cases.{by-test, by-leb, and-both}
 use Rattle.framing.specs.Answer.{Outcome, done, refused, storedAt}
 use Rattle.framing.specs.Whole.{readOn}
-use Rattle.pcs.specs.Frame.{Typed, plainOk, frame}
+use Rattle.pcs.specs.Frame.{plainOk, frame}
 use Rattle.pcs.specs.Contract.{link, numbersOf}
 use Rattle.pcs.proofs.Written.{frame-length}
 use Rattle.pcs.proofs.Allowed.{sendable, plain-most}
+use Rattle.pcs.proofs.Typed.{typed}
 use Rattle.pcs.proofs.Theorems.{frames-read}
 use Rattle.display.specs.Profile.{messageOf}
 use Rattle.display.specs.Reading.{reading}
 use Rattle.display.specs.End.{isRepeat, showing, taking, answerTo, Reply, nothing, answer, refusal, answering, served, received, takes}
-use Rattle.display.specs.Claims.{RefusedKeeps, RefusedShort, AnswerReads, answerRead, RepeatAnswered, NewTaken, TakesInOrder}
+use Rattle.display.specs.Claims.{RefusedKeeps, SilentKeeps, RefusedShort, AnswerReads, answerRead, RepeatAnswered, NewTaken, TakesInOrder}
 use Rattle.display.specs.declared.Order.{Order}
 use Rattle.display.specs.declared.Display.{Display}
 use Rattle.display.proofs.Profile.{accepted}
@@ -36,7 +37,7 @@ Doing = (Reply × Display) × List ℕ
 abbrev pub Done : Type 0
 Done = (Reply × Display) × List ℕ × List ℕ
 
-differ : {A : Type 0} → _≡_ {A = ℕ} 0 1 → A
+pub differ : {A : Type 0} → _≡_ {A = ℕ} 0 1 → A
 differ e = absurd (omega arith)
 
 pub eleven : (o : Order) → length (frame (answerTo o)) ≡ 11
@@ -82,6 +83,21 @@ refused-keeps d run store memory n =
     by-test (λ (s : Done). s .0 .0 ≡ refusal n → (s .0 .1 ≡ d) × (s .2 ≡ memory)) (plainOk (d .own))
     (λ _ h. received-keeps d (reading run store .0) memory n h) (λ _ h. (refl, refl))
 
+-- ---- no answer
+
+served-silent : (d : Display) (o : Order) (memory : List ℕ) → served d o memory .0 .0 ≡ nothing → served d o memory .1 ≡ memory
+served-silent d o memory =
+    served-by d o memory (λ (s : Doing). s .0 .0 ≡ nothing → s .1 ≡ memory) (eqb (o .receiver) (d .own)) (eqb (o .receiver) 255)
+    (λ _ _ h. differ (cc)) (λ _ _ _. refl) (λ _ _. refl)
+
+received-silent : (d : Display) (x : Outcome Order) (memory : List ℕ) → received d x memory .0 .0 ≡ nothing → received d x memory .1 ≡ memory
+received-silent d (done o) memory h = served-silent d o memory h
+received-silent d (refused k) memory h = refl
+
+pub silent-keeps : SilentKeeps
+silent-keeps d run store memory =
+    by-test (λ (s : Done). s .0 .0 ≡ nothing → s .2 ≡ memory) (plainOk (d .own)) (λ _ h. received-silent d (reading run store .0) memory h) (λ _ _. refl)
+
 -- ---- the answer
 
 -- what an answer tells: the order was for this display, was taken, and its answer stands at the start of the memory
@@ -101,18 +117,6 @@ received-answer : (d : Display) (x : Outcome Order) (memory : List ℕ) (n : ℕ
     → (o : Order) × (x ≡ done o) × Told d o memory n (received d x memory)
 received-answer d (done o) memory n h = (o, refl, served-answer d o memory n h)
 received-answer d (refused k) memory n h = differ (cc)
-
-answer-typed : (o : Order) → plainOk (o .sender) ≡ true → plainOk (o .receiver) ≡ true → plainOk (o .number) ≡ true → Typed (answerTo o)
-answer-typed o s r n =
-    record {
-      receiver = omega (arith, plain-most (o .sender) s);
-      sender = omega (arith, plain-most (o .receiver) r);
-      kind = lit< tt;
-      number = omega (arith, plain-most (o .number) n);
-      sender-port = lit< tt;
-      receiver-port = lit< tt;
-      payload = λ i. lit< tt;
-    }
 
 -- a display whose own address is allowed
 pub opened : (d : Display) (run store memory : List ℕ) → plainOk (d .own) ≡ true
@@ -135,7 +139,7 @@ answer-reads d run store memory n y h =
     let (o, is, t) = received-answer d (reading run store .0) memory n (sym (ap (λ (s : Done). s .0 .0) e) ∙ h) in
     let a = accepted run store o y is in
     let s = sendable (messageOf o) (a .sends) in
-    let r : plainOk (o .receiver) ≡ true = ap plainOk (t .own) ∙ p in
+    let fit = answer-ok o (s .plain .sender) (ap plainOk (t .own) ∙ p) (s .plain .number) in
     let there : takes d run store memory .2 ≡ over (frame (answerTo o)) memory = ap (λ (s : Done). s .2) e ∙ t .left in
     let bytes : take n (takes d run store memory .2) ≡ frame (answerTo o) =
     ap₂ (λ (k : ℕ) (l : List ℕ). take k l) (t .count) there ∙ front (frame (answerTo o)) memory in
@@ -148,7 +152,7 @@ answer-reads d run store memory n y h =
       left = there;
       back = λ other room.
           ap (λ (l : List ℕ). readOn link l other .0) bytes
-          ∙ frames-read (answerTo o) other (answer-typed o (s .plain .sender) r (s .plain .number)) (answer-ok o (s .plain .sender) r (s .plain .number)) room .0
+          ∙ frames-read (answerTo o) other (typed (answerTo o) fit (λ i. lit< tt)) fit room .0
           ∙ ap done (read-as d o (t .own));
     }
 

@@ -1,6 +1,6 @@
 -- What is claimed of orders and of the display's end.
 use Rattle.display.specs.Claims.{ProfileIs, WrittenReads, AcceptedWritten, FramesJudged, Limits, ReadsGive, TakesGive, WritesGive}
-use Rattle.display.specs.Claims.{ShownLast, ShownExamples, RefusedKeeps, RefusedShort, AnswerReads, RepeatAnswered, NewTaken, TakesInOrder}
+use Rattle.display.specs.Claims.{ShownLast, ShownExamples, RefusedKeeps, SilentKeeps, RefusedShort, AnswerReads, RepeatAnswered, NewTaken, TakesInOrder}
 use Rattle.display.specs.Claims.{OthersPass, TakenOnce, ShowsOrdered, Printed}
 use Rattle.display.proofs.Orders as orders
 use Rattle.display.proofs.Numbers as numbers
@@ -54,6 +54,10 @@ takes-in-order = served.takes-in-order
 -- every refusal leaves the display as it was
 pub refused-keeps : RefusedKeeps
 refused-keeps = served.refused-keeps
+
+-- nor does a call without an answer touch the memory
+pub silent-keeps : SilentKeeps
+silent-keeps = served.silent-keeps
 
 -- 2 for an order to this display alone
 pub refused-short : RefusedShort

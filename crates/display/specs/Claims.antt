@@ -47,7 +47,8 @@ AcceptedWritten =
 abbrev pub FramesJudged : Type 0
 FramesJudged =
     (m : Message) (store : List ℕ) → Typed m → ok m ≡ true → size ≤ length store
-    → (inProfile m ≡ true → reading (frame m) store .0 ≡ done (orderOf m)) × (inProfile m ≡ false → reading (frame m) store .0 ≡ refused 21)
+    → (inProfile m ≡ true → reading (frame m) store .0 ≡ done (orderOf m))
+    × (inProfile m ≡ false → reading (frame m) store .0 ≡ refused 21)
 
 -- 99,999,999 is the largest value: an order for it may be sent, and one for a value more may not
 abbrev pub Limits : Type 0
@@ -121,6 +122,10 @@ abbrev pub RefusedKeeps : Type 0
 RefusedKeeps =
     (d : Display) (run store memory : List ℕ) (n : ℕ) → takes d run store memory .0 .0 ≡ refusal n
     → (takes d run store memory .0 .1 ≡ d) × (takes d run store memory .2 ≡ memory)
+
+-- and so does a reply of nothing leave the memory: nothing is stored there that is not sent
+abbrev pub SilentKeeps : Type 0
+SilentKeeps = (d : Display) (run store memory : List ℕ) → takes d run store memory .0 .0 ≡ nothing → takes d run store memory .2 ≡ memory
 
 -- an order is refused exactly if it is for this display and its answer of 11 bytes does not fit, with 2; so never one for everybody or for another
 abbrev pub RefusedShort : Type 0
