@@ -125,7 +125,9 @@ RefusedKeeps =
 
 -- and so does a reply of nothing leave the memory: nothing is stored there that is not sent
 abbrev pub SilentKeeps : Type 0
-SilentKeeps = (d : Display) (run store memory : List ℕ) → takes d run store memory .0 .0 ≡ nothing → takes d run store memory .2 ≡ memory
+SilentKeeps =
+    (d : Display) (run store memory : List ℕ) → takes d run store memory .0 .0 ≡ nothing
+    → takes d run store memory .2 ≡ memory
 
 -- an order is refused exactly if it is for this display and its answer of 11 bytes does not fit, with 2; so never one for everybody or for another
 abbrev pub RefusedShort : Type 0
