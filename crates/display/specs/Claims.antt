@@ -110,8 +110,8 @@ ShownExamples =
 pub record InOrder (d : Display) (run store memory : List ℕ) : Type 0 where
   pub own-first : plainOk (d .own) ≡ false → takes d run store memory ≡ ((refusal 3, d), store, memory)
   pub then-pcs : plainOk (d .own) ≡ true → (n : ℕ) → readOn link run store .0 ≡ refused n → takes d run store memory .0 .0 ≡ refusal n
-  pub then-outside : plainOk (d .own) ≡ true → (m : Message) → run ≡ frame m → Typed m → ok m ≡ true → size ≤ length store → inProfile m ≡ false
-      → takes d run store memory .0 .0 ≡ refusal 21
+  pub then-outside : plainOk (d .own) ≡ true → (m : Message) → run ≡ frame m → Typed m → ok m ≡ true → size ≤ length store
+      → inProfile m ≡ false → takes d run store memory .0 .0 ≡ refusal 21
   pub store-left : plainOk (d .own) ≡ true → takes d run store memory .1 ≡ readOn link run store .1
 
 abbrev pub TakesInOrder : Type 0
