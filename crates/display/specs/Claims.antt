@@ -157,11 +157,13 @@ pub record Answered (d : Display) (run store memory : List ℕ) (n : ℕ) : Type
   pub count : n ≡ 11
   pub after : takes d run store memory .0 .1 ≡ taking d order
   pub left : takes d run store memory .2 ≡ over (frame (answerTo order)) memory
-  pub back : (other : List ℕ) → size ≤ length other → readOn link (take n (takes d run store memory .2)) other .0 ≡ done (answerRead d order)
+  pub back : (other : List ℕ) → size ≤ length other
+      → readOn link (take n (takes d run store memory .2)) other .0 ≡ done (answerRead d order)
 
 abbrev pub AnswerReads : Type 0
 AnswerReads =
-    (d : Display) (run store memory : List ℕ) (n : ℕ) → Bytes run → takes d run store memory .0 .0 ≡ answer n → Answered d run store memory n
+    (d : Display) (run store memory : List ℕ) (n : ℕ) → Bytes run → takes d run store memory .0 .0 ≡ answer n
+    → Answered d run store memory n
 
 -- a repeat, an order with the sender and the number of the last one taken, changes nothing, whatever its value and whether it is for this display
 -- or for everybody; one for this display is answered as any other
@@ -217,8 +219,8 @@ TakenOnce =
 -- and whose value is shown, and the calls behind it changed nothing
 pub data Holds (own : ℕ) (cs : List Call) (d : Display) : Type 0 where
   blank : d ≡ freshDisplay own → Holds own cs d
-  brought : (before : List Call) (c : Call) (behind : List Call) (o : Order) → cs ≡ before ++ (c ∷ behind) → reading (c .run) (c .store) .0 ≡ done o
-      → eqb (o .receiver) own || eqb (o .receiver) 255 ≡ true → d ≡ showing (freshDisplay own) o
+  brought : (before : List Call) (c : Call) (behind : List Call) (o : Order) → cs ≡ before ++ (c ∷ behind)
+      → reading (c .run) (c .store) .0 ≡ done o → eqb (o .receiver) own || eqb (o .receiver) 255 ≡ true → d ≡ showing (freshDisplay own) o
       → AllOf (λ b. call d b .1 ≡ d) behind → Holds own cs d
 
 abbrev pub ShowsOrdered : Type 0
@@ -229,7 +231,8 @@ ShowsOrdered = (own : ℕ) (cs : List Call) → Holds own cs (after (freshDispla
 -- 250 orders 101 to show 12345, and the answer of 101
 abbrev pub printedOrder : List ℕ
 printedOrder =
-    253 ∷ 101 ∷ 250 ∷ 5 ∷ 2 ∷ 128 ∷ 12 ∷ 1 ∷ 1 ∷ 67 ∷ 76 ∷ 67 ∷ 83 ∷ 72 ∷ 49 ∷ 50 ∷ 128 ∷ 51 ∷ 52 ∷ 53 ∷ 128 ∷ 96 ∷ 254 ∷ []
+    253 ∷ 101 ∷ 250 ∷ 5 ∷ 2 ∷ 128 ∷ 12 ∷ 1 ∷ 1
+    ∷ 67 ∷ 76 ∷ 67 ∷ 83 ∷ 72 ∷ 49 ∷ 50 ∷ 128 ∷ 51 ∷ 52 ∷ 53 ∷ 128 ∷ 96 ∷ 254 ∷ []
 
 abbrev pub printedAnswer : List ℕ
 printedAnswer = 253 ∷ 250 ∷ 101 ∷ 6 ∷ 2 ∷ 128 ∷ 128 ∷ 1 ∷ 1 ∷ 105 ∷ 254 ∷ []
