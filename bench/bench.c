@@ -13,11 +13,10 @@ uint32_t bench_crc32(const uint8_t *p, size_t n);
 uint8_t bench_sum(const uint8_t *p, size_t n);
 size_t bench_pack(const uint8_t *data, size_t n, uint8_t *out, size_t room);
 size_t bench_unpack(uint8_t *store, size_t size, size_t from, size_t count);
-size_t bench_mdu_events(const uint8_t *stream, size_t n, uint8_t *store, size_t size);
 
 const struct side linebox = {"linebox", bench_crc16, bench_crc32, bench_sum, bench_pack, bench_unpack, linebox_pcs_write, linebox_mdu_write,
     linebox_dle_write, linebox_expansion_write, linebox_pcs_read, linebox_mdu_read, linebox_dle_read, linebox_expansion_read,
-    linebox_display_write, linebox_display_read, linebox_display_shown, bench_mdu_events};
+    linebox_display_write, linebox_display_read, linebox_display_shown};
 
 static uint32_t zlib_crc32(const uint8_t *p, size_t n) { return (uint32_t)crc32(0, p, (uInt)n); }
 static const struct side zlib = {.way = "zlib", .crc32 = zlib_crc32};
@@ -56,7 +55,6 @@ WORK("expansion read", 0, expansion_read, s->expansion_read(p, n, store, size))
 WORK("display write", 1, display_write, s->display_write(value_at(p), p[4], p[5], p[6], out, room))
 WORK("display read", 0, display_read, s->display_read(p, n, store, size))
 WORK("display shown", 0, display_shown, s->display_shown(value_at(p)))
-WORK("MDU stream", 0, mdu_events, s->mdu_events(p, n, store, size))
 
 /* PCS with a CRC is written and read by the same functions. */
 static uint64_t pcs_write_crc_run(const struct side *s, const uint8_t *p, size_t n) {
@@ -149,14 +147,13 @@ static size_t near_order(uint8_t *frame) {
 /* The sides agree on the inputs damaged in some bytes, cut or lengthened, and in less memory too: so on what is refused. */
 static void damaged(const struct work *w, size_t least) {
     static uint8_t wrong[LONGEST + 1];
-    int order = w->entry == display_read_entry;
-    uint64_t mark = w->entry == mdu_read_entry || w->entry == mdu_events_entry ? 0xE3 : 16;
     for (int k = 0; k < 100 * INPUTS; k++) {
         size_t n = inputs[k % INPUTS].n;
         memcpy(wrong, inputs[k % INPUTS].bytes, n);
-        for (size_t i = next() % 4; i > 0; i--) wrong[next() % n] = (uint8_t)(next() % 2 ? next() : next() % 2 ? mark : 253 + next() % 3);
+        for (size_t i = next() % 4; i > 0; i--) wrong[next() % n] = (uint8_t)(next() % 2 ? next() : next() % 2 ? 16 : 253 + next() % 3);
         if (next() % 4 == 0) n = least + next() % (n + 1 - least);
         else if (next() % 4 == 0) wrong[n++] = (uint8_t)next();
+        int order = w->entry == display_read_entry;
         if (order && next() % 2) n = near_order(wrong);
         else if ((order || w->entry == pcs_read_entry) && next() % 2) pcs_mended(wrong, n);
         room = next() % 4 ? sizeof out : next() % LONGEST;
@@ -199,16 +196,6 @@ static void noise_row(const char *name, const struct work *w, size_t n) {
     static uint8_t noise[NOISE];
     for (size_t i = 0; i < n; i++) do noise[i] = (uint8_t)next(); while (noise[i] == 253 || noise[i] == 0xE3 || noise[i] == 16);
     measure(name, w, &(struct input){noise, n}, 1);
-}
-
-/* From byte six on each E3 refuses a header, of which five bytes are kept: the time of a byte is the same at both lengths. The sides agree on shorter
- * streams of E3, damaged, first. */
-static void starts_row(const char *name, size_t n) {
-    static uint8_t starts[NOISE];
-    memset(starts, 0xE3, n);
-    payloads(LONGEST, 0xE3);
-    damaged(&mdu_events_work, 0);
-    measure(name, &mdu_events_work, &(struct input){starts, n}, 1);
 }
 
 static void order_row(const char *name, const struct work *w, size_t digits) {
@@ -291,7 +278,6 @@ int main(int argc, char **argv) {
         noise_row("DLE, noise", &dle_read_work, n);
         noise_row("expansion, noise", &expansion_read_work, n);
     }
-    for (size_t n = NOISE / 16; n <= NOISE; n *= 16) starts_row("MDU stream, all E3", n);
     display();
     print_tables();
     return 0;

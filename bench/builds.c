@@ -7,7 +7,7 @@
 #include <time.h>
 
 /* A side whose calls have names that begin with p. Its linebox_pcs_write has a crc of the type behind `write`; or it has none, and `write` is 0.
- * The display's calls and that on a stream are left out, since an earlier build may have none. */
+ * The display's calls are left out, since an earlier build may have none. */
 #define BUILD(side_name, p, write, ...) \
     uint16_t p##bench_crc16(uint16_t, const uint8_t *, size_t); \
     uint32_t p##bench_crc32(const uint8_t *, size_t); \
@@ -24,7 +24,7 @@
     uint64_t p##linebox_expansion_read(const uint8_t *, size_t, uint8_t *, size_t); \
     static const struct side side_name = {#side_name, p##bench_crc16, p##bench_crc32, p##bench_sum, p##bench_pack, p##bench_unpack, \
         write, p##linebox_mdu_write, p##linebox_dle_write, p##linebox_expansion_write, \
-        p##linebox_pcs_read, p##linebox_mdu_read, p##linebox_dle_read, p##linebox_expansion_read, 0, 0, 0, 0};
+        p##linebox_pcs_read, p##linebox_mdu_read, p##linebox_dle_read, p##linebox_expansion_read, 0, 0, 0};
 #if EARLIER_VERSION < 3000 /* no crc yet */
 BUILD(earlier, earlier_, 0, )
 #else

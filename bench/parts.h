@@ -45,14 +45,6 @@ static inline void pcs_put_crc(uint8_t *p, uint16_t c) {
 }
 static inline int pcs_same_crc(const uint8_t *p, uint16_t c) { uint8_t sent[3]; pcs_put_crc(sent, c); return !memcmp(p, sent, 3); }
 
-/* MDU: the stated length of a body, and the refusal of a header of six bytes, 0 where a body follows it. */
-static inline size_t mdu_length(const uint8_t *g) { return (size_t)g[2] << 8 | g[3]; }
-static inline uint64_t mdu_fault(const uint8_t *g) {
-    if (g[1] != 1 || g[4] == 0) return 9;
-    if (g[5] != (uint8_t)(g[0] + g[1] + g[2] + g[3] + g[4])) return 8;
-    return mdu_length(g) < 1 || mdu_length(g) > 1025 ? 10 : 0;
-}
-
 /* The display: whether a PCS message is an order, its digits still to be looked at one by one, and the answer to an order. */
 static inline size_t display_digits(uint64_t r) { return (r >> 8 & 0xFFF) - 5; }
 static inline int display_fits(uint64_t r, const uint8_t *data) {

@@ -1,4 +1,4 @@
-/* The whole-frame reads, and the events of an MDU stream, in C as one writes them down: one byte after the other, by the state that it meets. */
+/* The whole-frame reads in C as one writes them down: one byte after the other, by the state that it meets. */
 #include "parts.h"
 
 static uint64_t pcs_end(uint8_t *g, size_t n, int exact) {
@@ -30,14 +30,6 @@ uint64_t plain_pcs_read(const uint8_t *frame, size_t n, uint8_t *store, size_t s
     return 6;
 }
 
-/* What stays open of a refused header, at the front of the store: its bytes from the first E3 behind its own. */
-static size_t mdu_kept(uint8_t *g) {
-    size_t k = 1, i = 0;
-    while (k < 6 && g[k] != 0xE3) k++;
-    while (k < 6) g[i++] = g[k++];
-    return i;
-}
-
 uint64_t plain_mdu_read(const uint8_t *frame, size_t n, uint8_t *store, size_t size) {
     if (size < 1033) return 1;
     size_t count = 0, length = 0, noise = 0;
@@ -46,9 +38,10 @@ uint64_t plain_mdu_read(const uint8_t *frame, size_t n, uint8_t *store, size_t s
         if (count == 0 && b != 0xE3) { noise++; continue; }
         store[count++] = b;
         if (count == 6) {
-            uint64_t fault = mdu_fault(store);
-            if (fault) { mdu_kept(store); return fault; }
-            length = mdu_length(store);
+            if (store[1] != 1 || store[4] == 0) return 9;
+            if (store[5] != (uint8_t)(store[0] + store[1] + store[2] + store[3] + store[4])) return 8;
+            length = (size_t)store[2] << 8 | store[3];
+            if (length < 1 || length > 1025) return 10;
         } else if (count > 6 && count == length + 8) {
             uint16_t c = crc16_table(0, store + 6, length);
             if (store[6 + length] != c >> 8 || store[7 + length] != (c & 255)) return 8;
@@ -57,22 +50,6 @@ uint64_t plain_mdu_read(const uint8_t *frame, size_t n, uint8_t *store, size_t s
         }
     }
     return 6;
-}
-
-/* An event counts whatever it tells: the check value behind a body is not looked at, and linebox's compiler leaves it out too. */
-size_t plain_mdu_events(const uint8_t *stream, size_t n, uint8_t *store, size_t size) {
-    if (size < 1033) return 0;
-    size_t count = 0, length = 0, events = 0;
-    for (size_t i = 0; i < n; i++) {
-        uint8_t b = stream[i];
-        if (count == 0 && b != 0xE3) continue;
-        store[count++] = b;
-        if (count == 6) {
-            if (mdu_fault(store)) { events++; count = mdu_kept(store); }
-            else length = mdu_length(store);
-        } else if (count > 6 && count == length + 8) { events++; count = 0; }
-    }
-    return events;
 }
 
 static uint64_t dle_end(const uint8_t *g, size_t count, int exact) {
@@ -153,5 +130,4 @@ uint32_t plain_display_shown(uint32_t value) {
 }
 
 SIDE plain_read = {.way = "plain", .pcs_read = plain_pcs_read, .mdu_read = plain_mdu_read, .dle_read = plain_dle_read,
-    .expansion_read = plain_expansion_read, .display_read = plain_display_read, .display_shown = plain_display_shown,
-    .mdu_events = plain_mdu_events};
+    .expansion_read = plain_expansion_read, .display_read = plain_display_read, .display_shown = plain_display_shown};

@@ -38,49 +38,16 @@ uint64_t runs_mdu_read(const uint8_t *frame, size_t n, uint8_t *store, size_t si
     size_t there = (size_t)(frame + n - p);
     memcpy(store, p, least(there, 6));
     if (there < 6) return 6;
-    uint64_t fault = mdu_fault(p);
-    if (fault) {
-        const uint8_t *kept = memchr(p + 1, 0xE3, 5);
-        if (kept) memcpy(store, kept, (size_t)(p + 6 - kept));
-        return fault;
-    }
-    size_t length = mdu_length(p);
+    if (p[1] != 1 || p[4] == 0) return 9;
+    if (p[5] != (uint8_t)(p[0] + p[1] + p[2] + p[3] + p[4])) return 8;
+    size_t length = (size_t)p[2] << 8 | p[3];
+    if (length < 1 || length > 1025) return 10;
     memcpy(store + 6, p + 6, least(there, length + 8) - 6);
     if (there < length + 8) return 6;
     uint16_t c = crc16_slices(0, p + 6, length);
     if (p[6 + length] != c >> 8 || p[7 + length] != (c & 255)) return 8;
     if (there != length + 8 || p != frame) return 6;
     return (uint64_t)length << 8 | (uint64_t)p[4] << 24;
-}
-
-/* The next E3: at once, in a word where there are eight bytes, or farther off by memchr. */
-static const uint8_t *mdu_start(const uint8_t *p, const uint8_t *end) {
-    if (end - p >= 8) {
-        if (*p == 0xE3) return p;
-        uint64_t w = load8(p) ^ EACH(0xE3), m = (w - EACH(1)) & ~w & EACH(0x80);
-        if (m) return p + (__builtin_ctzll(m) >> 3);
-        p += 8;
-    }
-    return p < end ? memchr(p, 0xE3, (size_t)(end - p)) : 0;
-}
-
-/* A refused header is read on from the next E3 behind its own: what is gathered there covers what would be moved. Check values as in plain_read.c. */
-size_t runs_mdu_events(const uint8_t *stream, size_t n, uint8_t *store, size_t size) {
-    if (size < 1033) return 0;
-    const uint8_t *p = stream, *end = stream + n;
-    size_t events = 0;
-    while ((p = mdu_start(p, end))) {
-        size_t there = (size_t)(end - p);
-        if (there < 6) { memcpy(store, p, there); break; }
-        memcpy(store, p, 6);
-        if (mdu_fault(p)) { events++; p++; continue; }
-        size_t whole = mdu_length(p) + 8;
-        memcpy(store + 6, p + 6, least(there, whole) - 6);
-        if (there < whole) break;
-        events++;
-        p += whole;
-    }
-    return events;
 }
 
 static uint64_t dle_end(const uint8_t *g, size_t count, int exact) {
@@ -166,4 +133,4 @@ uint64_t runs_display_read(const uint8_t *frame, size_t n, uint8_t *store, size_
 }
 
 SIDE runs_read = {.way = "by runs", .pcs_read = runs_pcs_read, .mdu_read = runs_mdu_read,
-    .dle_read = runs_dle_read, .expansion_read = runs_expansion_read, .display_read = runs_display_read, .mdu_events = runs_mdu_events};
+    .dle_read = runs_dle_read, .expansion_read = runs_expansion_read, .display_read = runs_display_read};

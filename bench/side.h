@@ -25,6 +25,5 @@ struct side {
     int32_t (*display_write)(uint32_t value, uint8_t receiver, uint8_t sender, uint8_t number, uint8_t *out, size_t room);
     uint64_t (*display_read)(const uint8_t *frame, size_t n, uint8_t *store, size_t size);
     uint32_t (*display_shown)(uint32_t value);
-    size_t (*mdu_events)(const uint8_t *stream, size_t n, uint8_t *store, size_t size);     /* messages and refusals; 0: too small a store */
 };
 #endif

@@ -41,10 +41,8 @@ extern "C" {
  * LINEBOX_PCS_STORE and LINEBOX_PCS_LONGEST grew by 3. Frames with a CRC are read, and told by linebox_pcs_crc; the number that
  * they were refused with, LINEBOX_CRC_ASKED, is gone. A frame without a CRC that is too long by one to three bytes is still
  * LINEBOX_TOO_LONG, but only at its end mark, and all its bytes lie in the store; a start mark in it is LINEBOX_NEW_START.
- * 3001 added linebox_display_write, linebox_display_read and linebox_display_shown, and LINEBOX_OUTSIDE_PROFILE.
- * 4000 changed what linebox_mdu_read leaves in the store for some headers that it refuses, those with an E3 among bytes two to
- * five: see Reads. No answer changed, and no call, name or number. */
-#define LINEBOX_VERSION 4000
+ * 3001 added linebox_display_write, linebox_display_read and linebox_display_shown, and LINEBOX_OUTSIDE_PROFILE. */
+#define LINEBOX_VERSION 3001
 
 /* ---- Refusals: why a call was not done. 0 is no refusal. */
 enum {
@@ -147,9 +145,7 @@ int32_t linebox_expansion_write(uint8_t id, uint8_t type, uint8_t repeat, uint8_
  * through up to the first frame in it that is accepted or refused, or to the end of the run. What was gathered of that frame,
  * or of one that the run leaves open, lies in the store from place 0 on (PCS: the bytes between the marks; MDU: the frame
  * itself; DLE and expansion: the bytes between the marks, with no escapes). Then an accepted PCS frame has its unpacked data
- * put over the first of them. Likewise, where an MDU frame is refused at its sixth byte and one of bytes two to six is an E3, the
- * bytes from the first such E3 through the sixth are put over the first places: a receiver would go on with them as the next
- * frame. No other place is written.
+ * put over the first of them. No other place is written.
  * A frame that is accepted is not always told as a message: with a byte before it or behind it the answer is
  * LINEBOX_TOO_SHORT, and the store is left as the accepted frame leaves it, on PCS with the unpacked data.
  * After LINEBOX_WRONG_CHECK on the expansion link store[0] is the id and store[3] the address as they arrived, for a reply of

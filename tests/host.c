@@ -411,93 +411,6 @@ static void mdu_refused(void) {
     CHECK(linebox_mdu_read(length, sizeof length, store, sizeof store) == LINEBOX_WRONG_LENGTH);
 }
 
-/* A header refused at its sixth byte: the answer is its number, whatever stands behind it. From the first E3 behind its start on, its bytes stay, and are
- * at the front of the store; the places behind them hold what they held, byte six included, which was stored before it was judged. Without an E3
- * all six stand where they were gathered. */
-static void mdu_header_refused(const uint8_t *header, unsigned number) {
-    uint8_t run[17], left[6];
-    size_t k = 1;
-    while (k < 6 && header[k] != 0xE3) k++;
-    memcpy(left, header, 6);
-    memcpy(left, header + k, 6 - k);
-    run[0] = run[1] = 0xFF; /* noise */
-    memcpy(run + 2, header, 6);
-    memcpy(run + 8, mdu_frame, 9);
-    for (size_t noise = 0; noise <= 2; noise++) {
-        fresh(); /* the header alone, with a frame behind it, with the longer store */
-        CHECK(linebox_mdu_read(run + 2 - noise, noise + 6, store, LINEBOX_MDU_STORE) == number && holds(store, left, 6, sizeof store));
-        fresh();
-        CHECK(linebox_mdu_read(run + 2 - noise, noise + 15, store, LINEBOX_MDU_STORE) == number && holds(store, left, 6, sizeof store));
-        fresh();
-        CHECK(linebox_mdu_read(run + 2 - noise, noise + 15, store, sizeof store) == number && holds(store, left, 6, sizeof store));
-    }
-    memset(store, 0xE3, sizeof store); /* only the header's own bytes are looked at */
-    CHECK(linebox_mdu_read(header, 6, store, LINEBOX_MDU_STORE) == number && !memcmp(store, left, 6));
-    for (size_t i = 6; i < sizeof store; i++) CHECK(store[i] == 0xE3);
-    fresh(); /* a byte less is an open frame; a store that is too short is left alone */
-    CHECK(linebox_mdu_read(header, 5, store, sizeof store) == LINEBOX_TOO_SHORT && holds(store, header, 5, sizeof store));
-    fresh();
-    CHECK(linebox_mdu_read(header, 6, store, LINEBOX_MDU_STORE - 1) == LINEBOX_STORE_SHORT && kept(store, 0, sizeof store));
-}
-
-/* the sum of a header's five bytes */
-static uint8_t mdu_sum(const uint8_t *header) {
-    unsigned sum = 0;
-    for (size_t i = 0; i < 5; i++) sum += header[i];
-    return CAST(uint8_t, sum & 0xFF);
-}
-
-/* E3 at none, at each and at several of bytes two to six; where it neither takes the fault away nor puts another in its place, wrong by the version, the
- * address, the sum and the length */
-static void mdu_false_starts(void) {
-    static const uint8_t kinds[][6] = {
-        {0xE3, 2, 0, 1, 7, 0xED}, {0xE3, 1, 0, 1, 0, 0xE5}, {0xE3, 1, 0, 1, 7, 0x55}, {0xE3, 1, 4, 2, 7, 0xF1}, {0xE3, 1, 4, 2, 0xF9, 0xE3}};
-    static const unsigned numbers[] = {LINEBOX_WRONG_FIELD, LINEBOX_WRONG_FIELD, LINEBOX_WRONG_CHECK, LINEBOX_WRONG_LENGTH, LINEBOX_WRONG_LENGTH};
-    unsigned seen[5] = {0, 0, 0, 0, 0};
-    for (size_t kind = 0; kind < 5; kind++)
-        for (unsigned places = 0; places < 32; places++) {
-            uint8_t header[6];
-            size_t k = 1;
-            memcpy(header, kinds[kind], 6);
-            for (size_t i = 1; i < 6; i++)
-                if (places >> (i - 1) & 1) header[i] = 0xE3;
-            if (kind > 2) header[5] = mdu_sum(header);
-            if (kind == 0 ? header[1] == 1 : header[1] != 1) continue;
-            if (kind == 1 ? header[4] != 0 : kind == 2 && header[5] == mdu_sum(header)) continue;
-            while (k < 6 && header[k] != 0xE3) k++;
-            seen[kind] |= 1u << k;
-            mdu_header_refused(header, numbers[kind]);
-        }
-    /* by the first E3, at place 1 to 5, or 6 for none */
-    CHECK(seen[0] == (2 | 4 | 8 | 16 | 32 | 64) && seen[1] == (4 | 8 | 32 | 64) && seen[2] == (4 | 8 | 16 | 32 | 64));
-    CHECK((seen[3] | seen[4]) == (4 | 8 | 16 | 32 | 64));
-}
-
-/* written out: request 7 of paper 02, E3 before a frame; the first of two E3s counts; byte six alone; the last check value, behind which nothing moves */
-static void mdu_left_by_a_false_start(void) {
-    static const uint8_t again[] = {0xFF, 0xE3, 0xE3, 0x01, 0x00, 0x01, 0x0D, 0xF2, 0x31, 0xD4, 0xC1}, again_left[] = {0xE3, 0x01, 0x00, 0x01, 0x0D, 0x0D};
-    static const uint8_t first[] = {0xE3, 0x01, 0x05, 0xE3, 0xE3, 0x09}, first_left[] = {0xE3, 0xE3, 0x09, 0xE3, 0xE3, 0x09};
-    static const uint8_t six[] = {0xE3, 0x01, 0x00, 0x01, 0x0D, 0xE3};
-    static const uint8_t last[] = {0xE3, 0x01, 0x00, 0x02, 0xE3, 0xC9, 0xE3, 0xE3, 0xE3, 0x01};
-    fresh();
-    CHECK(linebox_mdu_read(again, sizeof again, store, sizeof store) == LINEBOX_WRONG_FIELD && holds(store, again_left, 6, sizeof store));
-    fresh();
-    CHECK(linebox_mdu_read(first, sizeof first, store, sizeof store) == LINEBOX_WRONG_CHECK && holds(store, first_left, 6, sizeof store));
-    fresh();
-    CHECK(linebox_mdu_read(six, sizeof six, store, sizeof store) == LINEBOX_WRONG_CHECK && holds(store, six, 6, sizeof store));
-    fresh();
-    CHECK(linebox_mdu_read(last, sizeof last, store, sizeof store) == LINEBOX_WRONG_CHECK && holds(store, last, sizeof last, sizeof store));
-    /* E3 as address and in the body of a good frame; five bytes that are a good header together with the E3 behind them */
-    static const uint8_t marks[] = {0xE3, 0xE3, 0x01}, good[] = {0xE3, 0x01, 0x00, 0x05, 0xFA, 0xE3, 0x01, 0x00, 0x01, 0x0D, 0xF2, 0x31, 0xD4, 0xC1};
-    fresh();
-    CHECK(linebox_mdu_write(0xE3, marks, 3, out, sizeof out) == 11);
-    uint64_t r = linebox_mdu_read(out, 11, store, sizeof store);
-    CHECK(linebox_refusal(r) == 0 && linebox_mdu_address(r) == 0xE3 && linebox_length(r) == 3 && holds(store, out, 11, sizeof store));
-    fresh();
-    CHECK(linebox_mdu_read(good, sizeof good, store, sizeof store) == LINEBOX_WRONG_CHECK && holds(store, good, 13, sizeof store));
-    CHECK(linebox_mdu_read(good, 12, store, sizeof store) == LINEBOX_TOO_SHORT);
-}
-
 static const uint8_t dle_frame[] = {0x10, 0x02, 0x10, 0x10, 0x03, 0x02, 0x64, 0x96, 0x10, 0x03}, two[] = {0x64, 0x96};
 
 static void dle_reads_back(void) {
@@ -906,8 +819,6 @@ int main(void) {
     mdu_reads_back();
     mdu_not_written();
     mdu_refused();
-    mdu_false_starts();
-    mdu_left_by_a_false_start();
     dle_reads_back();
     dle_not_written();
     dle_refused();

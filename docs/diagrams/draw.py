@@ -78,18 +78,12 @@ AT_254 = ["At 254, in this order (info 12 to 15: with CRC):", "6: fewer than 9 b
           "8: the sum or the CRC", "9: a field; 10: the length; 13: the packing"]
 
 
-AT_SIX = ["At byte six, in this order:", "9: the version, or address 0", "8: the header sum; 10: the length", "Another E3: the first of bytes two to six. It stays",
-          "open with those behind it, at the front"]
-
-
 def receivers():
     p = [TIP, text(20, 24, "Bytes of PCS are in decimal, those of the other links in hex. Refusal numbers are in decimal.", 12, "start")]
     p += two(60, "PCS", "253", "any other byte: noise", "253: refusal 4, a new frame\nany other byte: gathered, up to 1,183",
              "254: message, or refusal 6, 5, 8, 9, 10, 13\nbyte 1,184: refusal 5")
     p += [text(670, 108 + 15 * k, line, 10, "start", fill="#555") for k, line in enumerate(AT_254)]
-    p += two(250, "MDU", "E3, gathered", "any other byte: noise", "any byte: gathered\nbyte six, with another E3: refusal 9, 8, 10, a new frame from there on",
-             "byte six, without another E3: refusal 9, 8, 10\nlast byte: message, or refusal 8")
-    p += [text(670, 298 + 15 * k, line, 10, "start", fill="#555") for k, line in enumerate(AT_SIX)]
+    p += two(250, "MDU", "E3, gathered", "any other byte: noise", "any byte: gathered", "byte six: refusal 9, 8, 10\nlast byte: message, or refusal 8")
     y = 440
     p += [text(20, y, "DLE", 16, "start", "bold")]
     p += state(140, y + 70, 0, "hunting") + state(380, y + 70, 1, "10 waits") + state(620, y + 70, 2, "open", True) + state(860, y + 70, 3, "open, 10 waits", True)

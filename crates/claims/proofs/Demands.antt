@@ -2,7 +2,6 @@
 use Rattle.checksum.proofs.CheckValue.{crc16_detects, crc32_detects}
 use Rattle.framing.proofs.Lawful.{Lawful}
 use Rattle.framing.proofs.Lawful as any
-use Rattle.framing.proofs.Reopened.{after_refusal_lem}
 use Rattle.framing.proofs.Wire as Wire
 use Rattle.pcs.proofs.Lawful as pcs-lawful
 use Rattle.mdu.proofs.Lawful as mdu-lawful
@@ -43,7 +42,6 @@ demand2 w =
       canonical = any.canonical (link_of w) (lawful_of w);
       cut_anywhere = any.cut_anywhere (link_of w) (lawful_of w);
       accounted = any.accounted (link_of w) (lawful_of w);
-      after_refusal_lem = after_refusal_lem (link_of w) (lawful_of w);
     }
 
 pub demand3 : Demand3

@@ -1,11 +1,8 @@
--- The twelve examples that 01 marks to be proved, as one statement over one list of rows; behind them the fare of two bytes that 02 prints, two
--- frames with a CRC by its rules (the display's, and an acknowledgement whose CRC is 0, in three bytes of 128), and noise that ends in E3 before a
--- frame of document 002.
+-- The twelve examples that 01 marks to be proved, as one statement over one list of rows; behind them the fare of two bytes that 02 prints, and two
+-- frames with a CRC by its rules: the display's, and an acknowledgement whose CRC is 0, in three bytes of 128.
 use Rattle.std.specs.Prelude.{ℕ, ◌≡◌, true, List, [], ◌∷◌, ℤ, negsuc}
 use Rattle.std.proofs.Math.Option.{Option, some}
 use Rattle.framing.specs.Answer.{Outcome, done}
-use Rattle.framing.specs.Segment.{Segment, noise, refused_frame, accepted_frame}
-use Rattle.framing.specs.Claims.{segments}
 use Rattle.packing.specs.Packed.{packed}
 use Rattle.packing.specs.Unpacked.{unpacked}
 use Rattle.checksum.specs.Sum.{sum_of}
@@ -13,8 +10,6 @@ use Rattle.checksum.specs.Crc.{crc16_of}
 use Rattle.escape.specs.Code.{hide}
 use Rattle.escape.specs.Expansion.{expansion}
 use Rattle.pcs.specs.Frame as Pcs
-use Rattle.mdu.specs.Frame as Mdu
-use Rattle.mdu.specs.Contract.{link}
 use Rattle.dle.specs.Frame.{content, frame}
 use Rattle.record.specs.Fares.{unsigned_fares, signed_fares}
 use Rattle.record.specs.Answers.{reading}
@@ -91,15 +86,6 @@ rows =
       Value = List ℕ;
       worked = Pcs.frame (Pcs.with_fields 44 7 2 185 1 1 true []);
       expected = 253 ∷ 44 ∷ 7 ∷ 14 ∷ 185 ∷ 128 ∷ 128 ∷ 1 ∷ 1 ∷ 124 ∷ 128 ∷ 128 ∷ 128 ∷ 254 ∷ [];
-    }
-    ∷ record {
-      Value = List (Segment Mdu.Message);
-      worked = segments link (0xFF ∷ 0xE3 ∷ 0xE3 ∷ 0x01 ∷ 0x00 ∷ 0x01 ∷ 0x0D ∷ 0xF2 ∷ 0x31 ∷ 0xD4 ∷ 0xC1 ∷ []);
-      expected =
-          noise (0xFF ∷ [])
-          ∷ refused_frame 9 (0xE3 ∷ [])
-          ∷ accepted_frame (record { address = 13; body = 0x31 ∷ [] })
-          ∷ [];
     }
     ∷ []
 

@@ -99,17 +99,17 @@ pub decimal_bytes : (n : ℕ) → Bytes (decimal n)
 decimal_bytes n = digits_bytes (decimal n) (decimal_digits n)
 
 -- digits behind those of a number that is not 0
-pub decimal-from : (bs : List ℕ) (n : ℕ) → 1 ≤ n → are_digits bs ≡ true → value_from n bs < 2 ^ 64 → decimal (value_from n bs) ≡ decimal n ++ bs
+pub decimal_from_lem : (bs : List ℕ) (n : ℕ) → 1 ≤ n → are_digits bs ≡ true → value_from n bs < 2 ^ 64 → decimal (value_from n bs) ≡ decimal n ++ bs
 unfolding value_from
-decimal-from [] n o h f = sym (append-nil (decimal n))
-decimal-from (b ∷ bs) n o h f =
+decimal_from_lem [] n o h f = sym (append-nil (decimal n))
+decimal_from_lem (b ∷ bs) n o h f =
     let d = digit_first b bs h in
     let next : ℕ = n * 10 + (b - 48) in
     let small = value_above next bs in
     let high : next / 10 ≡ n = omega (arith, d.0, d.1) in
     let low : 48 + next % 10 ≡ b = omega (arith, d.0, d.1) in
     let large : decimal next ≡ decimal n ++ (b ∷ []) = decimal_large next (omega arith) (omega arith) ∙ rw (high, low) in
-    decimal-from bs next (omega arith) d.2 f ∙ ap (λ (l : List ℕ). l ++ bs) large ∙ append_assoc (decimal n) (b ∷ []) bs
+    decimal_from_lem bs next (omega arith) d.2 f ∙ ap (λ (l : List ℕ). l ++ bs) large ∙ append_assoc (decimal n) (b ∷ []) bs
 
 -- ---- numerals
 
@@ -163,7 +163,7 @@ decimal_value most (b ∷ a ∷ bs) n f =
     let d = digit_first b (a ∷ bs) n.digits in
     let e : 48 + (b - 48) ≡ b = omega (arith, d.0) in
     let o : 1 ≤ b - 48 = above b d.0 (n.first (omega arith)) in
-    ap decimal (value_first b (a ∷ bs)) ∙ decimal-from (a ∷ bs) (b - 48) o d.2 (rw (value_first b (a ∷ bs)) at f) ∙ ap (λ (l : List ℕ). l ++ (a ∷ bs)) (decimal-small (b - 48) (omega (arith, d.1)) ∙ ap (λ (x : ℕ). x ∷ []) e)
+    ap decimal (value_first b (a ∷ bs)) ∙ decimal_from_lem (a ∷ bs) (b - 48) o d.2 (rw (value_first b (a ∷ bs)) at f) ∙ ap (λ (l : List ℕ). l ++ (a ∷ bs)) (decimal-small (b - 48) (omega (arith, d.1)) ∙ ap (λ (x : ℕ). x ∷ []) e)
   where
     above : (x : ℕ) → 48 ≤ x → (x ≡ 48 → ⊥) → 1 ≤ x - 48
     above x l h = omega (arith, l, h)

@@ -107,16 +107,16 @@ record Told (d : Display) (o : Order) (memory : List ℕ) (n : ℕ) (s : Doing) 
   after : s.0.1 ≡ taking d o
   left : s.1 ≡ over (frame (answer_to o)) memory
 
-served-answer : (d : Display) (o : Order) (memory : List ℕ) (n : ℕ) → (served d o memory).0.0 ≡ answer n → Told d o memory n (served d o memory)
-served-answer d o memory n =
+served_answer : (d : Display) (o : Order) (memory : List ℕ) (n : ℕ) → (served d o memory).0.0 ≡ answer n → Told d o memory n (served d o memory)
+served_answer d o memory n =
     served_by_lem d o memory (λ (s : Doing). s.0.0 ≡ answer n → Told d o memory n s) (eqb o.receiver d.own) (eqb o.receiver 255)
     (λ l t h. record { own = eqb-true o.receiver d.own t; count = cc; after = refl; left = sets_over (frame (answer_to o)) memory l })
     (λ _ _ h. differ (cc)) (λ _ h. differ (cc))
 
-received-answer : (d : Display) (x : Outcome Order) (memory : List ℕ) (n : ℕ) → (received d x memory).0.0 ≡ answer n
+received_answer : (d : Display) (x : Outcome Order) (memory : List ℕ) (n : ℕ) → (received d x memory).0.0 ≡ answer n
     → (o : Order) × (x ≡ done o) × Told d o memory n (received d x memory)
-received-answer d (done o) memory n h = (o, refl, served-answer d o memory n h)
-received-answer d (refused k) memory n h = differ (cc)
+received_answer d (done o) memory n h = (o, refl, served_answer d o memory n h)
+received_answer d (refused k) memory n h = differ (cc)
 
 -- a display whose own address is allowed
 pub opened : (d : Display) (run store memory : List ℕ) → plain_ok d.own ≡ true
@@ -132,11 +132,11 @@ read_as : (d : Display) (o : Order) → o.receiver ≡ d.own → numbers_of (ans
 read_as d o h =
     ap (λ (k : ℕ). record { receiver = o.sender; sender = k; kind = 2; number = o.number; sender_port = 1; receiver_port = 1; crc = false; length = 0 }) h
 
-pub answer-reads : AnswerReads
-answer-reads d run store memory n y h =
+pub answer_reads : AnswerReads
+answer_reads d run store memory n y h =
     let p = addressed d run store memory (answer n) h (λ e. differ (cc)) in
     let e = opened d run store memory p in
-    let (o, is, t) = received-answer d (reading run store).0 memory n (sym (ap (λ (s : Done). s.0.0) e) ∙ h) in
+    let (o, is, t) = received_answer d (reading run store).0 memory n (sym (ap (λ (s : Done). s.0.0) e) ∙ h) in
     let a = accepted run store o y is in
     let s = sendable (message_of o) a.sends in
     let fit = answer_ok o s.plain.sender (ap plain_ok t.own ∙ p) s.plain.number in

@@ -64,8 +64,8 @@ pub refused_short : RefusedShort
 refused_short = served.refused_short
 
 -- the answer reads back
-pub answer-reads : AnswerReads
-answer-reads = served.answer-reads
+pub answer_reads : AnswerReads
+answer_reads = served.answer_reads
 
 -- a repeat is answered, and not shown again
 pub repeat_answered : RepeatAnswered

@@ -1,6 +1,5 @@
 -- `Passed` has what the tests at the end of a frame say, `Body` the bodies of messages, `Bytes` that frames are bytes, `OnByte` what each byte does
--- by the rules, `Readback` that frames read back, `Lawful` that the link is lawful, `Numbers`, `NewStart`, `Places` which numbers it gives, what stays
--- open after a refusal and what it leaves in the store, `Theorems` the claims. `Written` is for the writer's functions,
+-- by the rules, `Readback` that frames read back, `Lawful` that the link is lawful, `Numbers`, `Places` which numbers it gives and what it leaves in the store, `Theorems` the claims. `Written` is for the writer's functions,
 -- `Steps` and `Passing` for the receiver's.
 pub mod Passed
 pub mod Body
@@ -10,7 +9,6 @@ pub mod OnByte
 pub mod Readback
 pub mod Lawful
 pub mod Numbers
-pub mod NewStart
 pub mod Places
 pub mod Theorems
 pub mod Written

@@ -98,7 +98,7 @@ takes (inside false g) b h =
     wire : List ℕ
     wire = held (inside false g) ++ (b ∷ [])
 takes (inside true g) b h =
-    by_eqb P b 0x02 (λ e. restarts reached g wire (inside false []) 4 _ (restart e) (omega arith) (record { silent = refl; ends = refl }))
+    by_eqb P b 0x02 (λ e. restarts reached g wire (inside false []) 4 _ (restart e) (omega arith))
     (λ _. by_eqb P b 0x03 (λ e. judge-takes g wire h (rw (e, snoc (0x03 ∷ []))))
     (λ _. by_eqb P b 0x10 (λ e. gather-takes true g b 0x10 (rw e)) (λ _. closes reached g wire [] _ refl (omega arith) tt)))
   where

@@ -1,12 +1,10 @@
--- What is claimed of the DLE link besides the claims on every link, which follow from `lawful` (framing/proofs/Lawful.antt, Reopened.antt,
--- Wire.antt, Whole.antt).
+-- What is claimed of the DLE link besides the claims on every link, which follow from `lawful` (framing/proofs/Lawful.antt, Wire.antt, Whole.antt).
 use Rattle.framing.proofs.Refusals as any
 use Rattle.framing.proofs.Places as Places
 use mathlib.Core.List.{[]}
 use Rattle.dle.specs.Contract.{link}
-use Rattle.dle.specs.Claims.{stream_numbers, GivesExactly, ReceiveGives, NewStart, StoresGathered, DataWithin}
+use Rattle.dle.specs.Claims.{stream_numbers, GivesExactly, ReceiveGives, StoresGathered, DataWithin}
 use Rattle.dle.proofs.Lawful.{lawful}
-use Rattle.dle.proofs.NewStart as starting
 use Rattle.dle.proofs.Numbers.{given}
 use Rattle.dle.proofs.Places.{storing, few}
 
@@ -17,10 +15,6 @@ gives_exactly = any.gives_exactly link lawful stream_numbers given
 -- and a call of `receive` 12, 1 and these
 pub receive_gives : ReceiveGives
 receive_gives = any.receive_gives link lawful stream_numbers given
-
--- what stays open after a refusal
-pub new_start : NewStart
-new_start = starting.new_start
 
 -- what a call leaves in the store, place by place
 pub stores_gathered : StoresGathered

@@ -1,9 +1,7 @@
 -- What is claimed of the DLE link besides the claims on every link.
-use Rattle.std.specs.Prelude.{ℕ, ◌≡◌, false, List, [], ◌∷◌}
-use Rattle.framing.specs.Claims as Claims
+use Rattle.std.specs.Prelude.{ℕ, List, [], ◌∷◌}
 use Rattle.framing.specs.Refusals as Refusals
 use Rattle.framing.specs.Places as Places
-use Rattle.dle.specs.Rules.{inside}
 use Rattle.dle.specs.Contract.{link}
 
 -- a new start, a byte too many, the least size, a wrong code, the length; there is no check value, and any sequence and node are allowed
@@ -15,10 +13,6 @@ GivesExactly = Refusals.GivesExactly link stream_numbers
 
 abbrev pub ReceiveGives : Type 0
 ReceiveGives = Refusals.ReceiveGives link stream_numbers
-
--- where a frame is open and no 10 waits, 10 02 refuses it and opens the next, and no other refusal leaves anything open
-abbrev pub NewStart : Type 0
-NewStart = Claims.NewStart link (0x10 ∷ 0x02 ∷ []) (λ p. (g : List ℕ) × (p ≡ inside false g))
 
 -- a byte that makes an event is not gathered; nothing is unpacked
 abbrev pub StoresGathered : Type 0

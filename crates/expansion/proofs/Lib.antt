@@ -1,6 +1,5 @@
 -- `Hidden`: the code of the link as its rules use it. `Passed`: the tests at the end of a frame. `Judge`: the end of a frame. `OnByte`: what each
--- byte does. `Readback`: a frame is read back. `Lawful`, `Refused`, `Numbers`, `NewStart`, `Places` which numbers it gives, what stays
--- open after a refusal and what it leaves in the store, `Theorems`: the claims. `Count`, `Passing`: for the receiver's code. `Laid`: for
+-- byte does. `Readback`: a frame is read back. `Lawful`, `Refused`, `Numbers`, `Places` which numbers it gives and what it leaves in the store, `Theorems`: the claims. `Count`, `Passing`: for the receiver's code. `Laid`: for
 -- the writer's.
 pub mod Hidden
 pub mod Passed
@@ -10,7 +9,6 @@ pub mod OnByte
 pub mod Readback
 pub mod Lawful
 pub mod Numbers
-pub mod NewStart
 pub mod Places
 pub mod Refused
 pub mod Theorems

@@ -109,7 +109,7 @@ module _ (w : Bool) (g : List ℕ) (b : ℕ) (h : Good (inside w g)) where
       goes_on reached g wire (inside true g) (rw (y.0, y.1) (ap (λ (x : List ℕ). 0xFD ∷ (x ++ (0xFF ∷ []))) (sym (append-nil (hide expansion g))))) h
   act-takes start e y =
       restarts reached g wire (inside false []) 4 before (ap (λ (x : List ℕ). before ++ x) (held_open ∙ ap (λ (x : ℕ). x ∷ []) (sym y)))
-      reached.good_first (rw held_open (record { silent = refl; ends = refl }))
+      reached.good_first
   act-takes end e y =
       judge-takes g wire h (rw (y.0, y.1) (ap (λ (x : List ℕ). 0xFD ∷ (x ++ (0xFE ∷ []))) (sym (append-nil (hide expansion g)))))
   act-takes wrong e y = closes reached g wire [] (refused_frame 7 wire) refl (omega arith) tt

@@ -1,5 +1,5 @@
--- What is claimed of the expansion link besides the claims on every link, which follow from `lawful` (framing/proofs/Lawful.antt, Reopened.antt,
--- Wire.antt, Whole.antt); the bound on its frames, its check value, and what a wrong check value leaves.
+-- What is claimed of the expansion link besides the claims on every link, which follow from `lawful` (framing/proofs/Lawful.antt, Wire.antt, Whole.antt); the bound on
+-- its frames, its check value, and what a wrong check value leaves.
 use Rattle.framing.proofs.Refusals as any
 use Rattle.framing.proofs.Places as Places
 use mathlib.Core.List.{[]}
@@ -7,9 +7,8 @@ use Rattle.escape.proofs.Expansion.{expansion_bound}
 use Rattle.checksum.specs.Claims.{Crc32Detects}
 use Rattle.checksum.proofs.CheckValue.{crc32_detects}
 use Rattle.expansion.specs.Contract.{link}
-use Rattle.expansion.specs.Claims.{stream_numbers, GivesExactly, ReceiveGives, NewStart, StoresGathered, DataWithin, FrameBound, RefusedHeader, RefusedAsSent}
+use Rattle.expansion.specs.Claims.{stream_numbers, GivesExactly, ReceiveGives, StoresGathered, DataWithin, FrameBound, RefusedHeader, RefusedAsSent}
 use Rattle.expansion.proofs.Lawful.{lawful}
-use Rattle.expansion.proofs.NewStart as starting
 use Rattle.expansion.proofs.Numbers.{given}
 use Rattle.expansion.proofs.Places.{storing, few}
 use Rattle.expansion.proofs.Judge.{content, content-fits}
@@ -22,10 +21,6 @@ gives_exactly = any.gives_exactly link lawful stream_numbers given
 -- and a call of `receive` 12, 1 and these
 pub receive_gives : ReceiveGives
 receive_gives = any.receive_gives link lawful stream_numbers given
-
--- what stays open after a refusal
-pub new_start : NewStart
-new_start = starting.new_start
 
 -- what a call leaves in the store, place by place
 pub stores_gathered : StoresGathered

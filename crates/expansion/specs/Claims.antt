@@ -6,7 +6,6 @@ use Rattle.framing.specs.Receiver.{last, drive, join}
 use Rattle.framing.specs.Segment.{Segment, refused_frame, refusal, wires}
 use Rattle.framing.specs.Link.{Lent, step_on, call_on, called}
 use Rattle.framing.specs.Claims.{segments}
-use Rattle.framing.specs.Claims as Claims
 use Rattle.framing.specs.Refusals as Refusals
 use Rattle.framing.specs.Places as Places
 use Rattle.expansion.specs.Frame.{Message, ok, enclose, frame}
@@ -22,10 +21,6 @@ GivesExactly = Refusals.GivesExactly link stream_numbers
 
 abbrev pub ReceiveGives : Type 0
 ReceiveGives = Refusals.ReceiveGives link stream_numbers
-
--- where a frame is open FD refuses it and opens the next, behind a waiting FF too, and no other refusal leaves anything open
-abbrev pub NewStart : Type 0
-NewStart = Claims.NewStart link (0xFD ∷ []) (λ p. 1 ≤ length (link.held p))
 
 -- a byte that makes an event is not gathered; nothing is unpacked
 abbrev pub StoresGathered : Type 0

@@ -2,7 +2,7 @@
 use Rattle.std.specs.Prelude.{ℕ, ◌-◌, Bool, true, false, cond, ◌&&◌, not, List, [], ◌∷◌, ◌++◌, length, get_or, take, drop, eqb, leb, ltb}
 use Rattle.std.proofs.Math.Option.{Option, none, some}
 use Rattle.runs.specs.Number.{little_endian}
-use Rattle.framing.specs.Segment.{Segment, noise, refused_frame, accepted_frame, after_end, after_refusal}
+use Rattle.framing.specs.Segment.{Segment, noise, refused_frame, accepted_frame}
 use Rattle.framing.specs.Tests.{first_of}
 use Rattle.checksum.specs.Crc.{crc32_of}
 use Rattle.escape.specs.Code.{Meaning, byte, waits, start, end, wrong, meaning, hide}
@@ -57,16 +57,16 @@ judge g wire = cond (eqb (fault_of g) 0) (accepted_frame (message_in g)) (refuse
 
 -- one more byte is gathered, or 5 where it is one too many
 abbrev pub gather : List ℕ → ℕ → List ℕ → Phase × Option (Segment Message)
-gather g b wire = cond (ltb (length g) size) (inside false (g ++ (b ∷ [])), none) (after_refusal hunting 5 wire none)
+gather g b wire = cond (ltb (length g) size) (inside false (g ++ (b ∷ [])), none) (hunting, some (refused_frame 5 wire))
 
--- a wire byte of an open frame by its meaning, with the wire bytes before it and with it: 4 at a new start, which opens the next frame and stays
--- open; 7 where it is wrongly coded
+-- a wire byte of an open frame by its meaning, with the wire bytes before it and with it: 4 at a new start, which opens the next frame; 7 where it is
+-- wrongly coded
 abbrev pub act : List ℕ → List ℕ → List ℕ → Meaning → Phase × Option (Segment Message)
 act g before wire (byte b) = gather g b wire
 act g before wire waits = (inside true g, none)
-act g before wire start = after_refusal hunting 4 before (some (inside false []))
-act g before wire end = after_end hunting (judge g wire)
-act g before wire wrong = after_refusal hunting 7 wire none
+act g before wire start = (inside false [], some (refused_frame 4 before))
+act g before wire end = (hunting, some (judge g wire))
+act g before wire wrong = (hunting, some (refused_frame 7 wire))
 
 -- hunting looks for FD
 abbrev pub on_byte : Phase → ℕ → Phase × Option (Segment Message)

@@ -5,7 +5,6 @@ use lib.Seq.{take-append_seam}
 use Rattle.runs.specs.Runs.{Bytes, over}
 use Rattle.framing.specs.Segment.{Segment, noise, refused_frame, accepted_frame, wire_of, noise_after}
 use Rattle.framing.specs.Link.{Link, data_at}
-use Rattle.framing.proofs.Feed.{Quiet, quiet_nil}
 use Rattle.framing.proofs.Segments.{wire_opt, Accepts}
 
 -- data that stand in a store, behind a front and before a tail, are read there
@@ -42,17 +41,6 @@ pub record Taken (L : Link) (g f : List ℕ) (q : L.Phase) (m : L.Message) : Typ
   pub read : (store : List ℕ) → take (length g) store ≡ g → L.message_of (over f store) (L.numbers_of m) ≡ m
   pub hunts : q ≡ L.hunting
 
--- a hunting receiver that is fed what q holds comes to q, and closes nothing
-abbrev pub ComesTo : (L : Link) → L.Phase → Type 0
-ComesTo L q = Quiet L.on_byte L.hunting (L.held q) q
-
--- so it is where a byte refuses a frame and leads to q
-abbrev pub Refuses : (L : Link) → L.Phase → Option (Segment L.Message) → Type 0
-Refuses L q none = Unit
-Refuses L q (some (noise bs)) = Unit
-Refuses L q (some (refused_frame n bs)) = ComesTo L q
-Refuses L q (some (accepted_frame m)) = Unit
-
 -- a byte that leads to r, where g was gathered, w is what was held with the byte, and f then stands at the start of the store
 pub record Takes {L : Link} (X : Reached L) (g w f : List ℕ) (r : L.Phase × Option (Segment L.Message)) : Type 0 where
   pub holds : wire_opt L.frame r.1 ++ L.held r.0 ≡ w
@@ -60,40 +48,21 @@ pub record Takes {L : Link} (X : Reached L) (g w f : List ℕ) (r : L.Phase × O
   pub fits : length f ≤ L.size
   pub stands : (store : List ℕ) → take (length (L.gathered r.0)) (over f store) ≡ L.gathered r.0
   pub accepts : Accepts (Taken L g f r.0) r.1
-  pub refuses : Refuses L r.0 r.1
 
 module _ {L : Link} (X : Reached L) (g w : List ℕ) where
   -- the byte is held, and makes no segment
   pub goes_on : (q : L.Phase) → L.held q ≡ w → X.Good q → Takes X g w (L.gathered q) (q, none)
-  goes_on q e h = record { holds = e; good = h; fits = X.fits q h; stands = λ store. take-append_seam (L.gathered q) _; accepts = tt; refuses = tt }
+  goes_on q e h = record { holds = e; good = h; fits = X.fits q h; stands = λ store. take-append_seam (L.gathered q) _; accepts = tt }
 
-  -- it refuses what stands before the next frame, which stays open: its gathered bytes stand at the start of the front
-  pub reopens : (q : L.Phase) (n : ℕ) (before f : List ℕ) → before ++ L.held q ≡ w → X.Good q → ComesTo L q → length f ≤ L.size
-      → ((store : List ℕ) → take (length (L.gathered q)) (over f store) ≡ L.gathered q) → Takes X g w f (q, some (refused_frame n before))
-  reopens q n before f e h o l t = record { holds = e; good = h; fits = l; stands = t; accepts = tt; refuses = o }
-
-  -- it is a new start, which opens the next frame: then they are all of it
-  pub restarts : (q : L.Phase) (n : ℕ) (before : List ℕ) → before ++ L.held q ≡ w → X.Good q → ComesTo L q
-      → Takes X g w (L.gathered q) (q, some (refused_frame n before))
-  restarts q n before e h o = reopens q n before (L.gathered q) e h o (X.fits q h) (λ store. take-append_seam (L.gathered q) _)
+  -- it is a new start, which opens the next frame
+  pub restarts : (q : L.Phase) (n : ℕ) (before : List ℕ) → before ++ L.held q ≡ w → X.Good q → Takes X g w (L.gathered q) (q, some (refused_frame n before))
+  restarts q n before e h = record { holds = e; good = h; fits = X.fits q h; stands = λ store. take-append_seam (L.gathered q) _; accepts = tt }
 
   -- it closes a segment and leaves hunting
   pub closes : (f : List ℕ) (s : Segment L.Message) → wire_of L.frame s ≡ w → length f ≤ L.size → Accepts (Taken L g f L.hunting) (some s)
       → Takes X g w f (L.hunting, some s)
   closes f s e h a =
-      record {
-        holds = rw X.held_first (append-nil (wire_of L.frame s) ∙ e);
-        good = X.good_first;
-        fits = h;
-        stands = λ store. rw X.gathered-first;
-        accepts = a;
-        refuses = hunts s;
-      }
-    where
-      hunts : (s : Segment L.Message) → Refuses L L.hunting (some s)
-      hunts (noise bs) = tt
-      hunts (refused_frame n bs) = rw X.held_first (quiet_nil L.on_byte L.hunting)
-      hunts (accepted_frame m) = tt
+      record { holds = rw X.held_first (append-nil (wire_of L.frame s) ∙ e); good = X.good_first; fits = h; stands = λ store. rw X.gathered-first; accepts = a }
 
 -- the end of a frame with wire bytes w: it is refused with them, or a message is accepted of which Q holds
 abbrev pub Ends : {M : Type 0} → (M → Type 0) → List ℕ → Segment M → Type 0

@@ -70,8 +70,8 @@ module _ {C A F E : Type 0} (conc : C → ℕ → C × Option F) (view : C → O
       (feed_follows (conc c b).0 (abst a b).0 bs (λ i. y (suc i)) h.1)
 
   -- so also where the relation holds only after the first byte
-  pub feed-from : (c : C) (a : A) (b : ℕ) (bs : List ℕ) → Bytes (b ∷ bs) → (view (conc c b).0 (conc c b).1 ≡ (abst a b).1) × R (conc c b).0 (abst a b).0
+  pub feed_from : (c : C) (a : A) (b : ℕ) (bs : List ℕ) → Bytes (b ∷ bs) → (view (conc c b).0 (conc c b).1 ≡ (abst a b).1) × R (conc c b).0 (abst a b).0
       → Follows R (seen (feed conc c (b ∷ bs))) (feed abst a (b ∷ bs))
-  feed-from c a b bs y h =
+  feed_from c a b bs y h =
       stop_follows (conc c b).0 (abst a b).0 (conc c b).1 (abst a b).1 _ _ h.0 h.1
       (feed_follows (conc c b).0 (abst a b).0 bs (λ i. y (suc i)) h.1)

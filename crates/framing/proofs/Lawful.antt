@@ -13,7 +13,7 @@ use Rattle.framing.specs.Link.{Link, Lent, step_on, call_on, told, heard_in, cal
 use Rattle.framing.specs.Claims.{segments, open_at, WritesFrame, ReadsBack, Canonical, CutAnywhere, Accounted}
 use Rattle.framing.proofs.Stored.{stored_done, writes_stored}
 use Rattle.framing.proofs.Feed.{feed_stops}
-use Rattle.framing.proofs.Cutting.{Follows, cutting, feed-from, feed_follows}
+use Rattle.framing.proofs.Cutting.{Follows, cutting, feed_from, feed_follows}
 use Rattle.framing.proofs.Segments.{Config, step, wire_opt, Accepts, accepts-map, AllAccept, accept_at, wires_append, partition, all-accepted, phase_last, heard-events, noise_last}
 use Rattle.framing.proofs.Byte.{Reached, Taken, Takes}
 
@@ -134,7 +134,7 @@ module _ (L : Link) (laws : Lawful L) where
     pub stands : Stands c a
     pub «open» : L.«open» c.0 ≡ length (L.held a.phase)
 
-  pub counts_of_lem : (p : L.Phase) (n : ℕ) (s : L.State) (store : List ℕ) → s ≡ laws.state_of p n → Good p
+  counts_of_lem : (p : L.Phase) (n : ℕ) (s : L.State) (store : List ℕ) → s ≡ laws.state_of p n → Good p
       → take (length (L.gathered p)) store ≡ L.gathered p → L.size ≤ length store → Counts (s, store) (at p n)
   counts_of_lem p n s store e g h r =
       subst (λ (x : L.State). Counts (x, store) (at p n)) (sym e)
@@ -225,7 +225,7 @@ module _ (L : Link) (laws : Lawful L) where
   follows_from c a [] h y r = absurd (omega arith)
   follows_from c a (b ∷ bs) h y r =
       rw (r.known, le-leb L.size (length c.1) r.room)
-      (feed-from (step_on L) view (step L.on_byte) Counts (λ _. refl) view_some (λ c a b y r. alike c a b y r.stands) c a b bs y (alike c a b (y 0) r))
+      (feed_from (step_on L) view (step L.on_byte) Counts (λ _. refl) view_some (λ c a b y r. alike c a b y r.stands) c a b bs y (alike c a b (y 0) r))
 
   -- and of the events themselves, as they are before they are told
   follows_untold : (c : Lent L) (a : Config L.Phase) (bs : List ℕ) → Bytes bs → Counts c a → Follows Counts (call_on L c bs) (feed (step L.on_byte) a bs)

@@ -1,7 +1,7 @@
 -- `Stored`: runs stored into lent memory. `Feed`, `Cutting`: any machine, fed and driven. `Segments`: the rules' segments. `Tests`: tests in their
 -- order. `Calls`: lists of calls told by self-delimiting frames. `Byte`: what a link has to show of each byte. `Lawful`: what else, and the claims
--- from it. `Reopened`: of what stays open after a refusal. `Wire`: of what any calls leave. `Whole`: of a host's call. `Refusals`: the numbers.
--- `Places`: the store. `States`, `Loop`, `Passing`, `Data`: for a link's code.
+-- from it. `Wire`: of what any calls leave. `Whole`: of a host's call. `Refusals`: the numbers. `Places`: the store. `States`, `Loop`, `Passing`,
+-- `Data`: for a link's code.
 pub mod Tests
 pub mod Stored
 pub mod Faults
@@ -11,7 +11,6 @@ pub mod Segments
 pub mod Calls
 pub mod Byte
 pub mod Lawful
-pub mod Reopened
 pub mod Wire
 pub mod Whole
 pub mod Refusals

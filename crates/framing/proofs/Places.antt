@@ -1,13 +1,13 @@
 -- What a call leaves in the store, and how much data a message has that it tells, over any link that shows it of each byte.
-use Rattle.std.proofs.Common.{◌≡◌, ℕ, suc, ◌+◌, ◌-◌, ◌<◌, ◌≤◌, Bool, true, false, leb, List, [], ◌∷◌, ◌++◌, length, get_or, take, drop, sym, refl, ap, ◌∙◌, subst, ap₂, append_assoc, append-nil, one-add, arith, length-append, length-drop, take-append-drop, length-take-le, get_or-drop, take_all, drop-drop, get_or-append-add, le-leb, leb-false, leb-true}
+use Rattle.std.proofs.Common.{◌≡◌, ℕ, suc, ◌+◌, ◌-◌, ◌<◌, ◌≤◌, Bool, true, false, leb, List, [], ◌∷◌, ◌++◌, length, get_or, take, drop, sym, refl, ap, ◌∙◌, subst, append-nil, one-add, arith, length-append, length-drop, take-append-drop, length-take-le, get_or-drop, take_all, drop-drop, get_or-append-add, le-leb, leb-false, leb-true}
 use mathlib.Core.Option.{Option, none, some}
 use lib.ListN.{get_or-append}
-use lib.Seq.{drop-length, take-append_seam, drop-append-add, drop-append-le}
+use lib.Seq.{drop-length, take-append_seam, drop-append-add}
 use Rattle.runs.specs.Runs.{over}
-use Rattle.framing.specs.Receiver.{Fed, stop, feed, last}
+use Rattle.framing.specs.Receiver.{Fed, stop, feed}
 use Rattle.framing.specs.Segment.{Segment, noise, refused_frame, accepted_frame, Event, message, refusal, event_of}
 use Rattle.framing.specs.Link.{Link, Lent, step_on, refuses, told, accepted}
-use Rattle.framing.specs.Places.{Places, gathered_by, laid_by, StoresGathered, DataWithin}
+use Rattle.framing.specs.Places.{Places, gathered_by, unpacked_by, StoresGathered, DataWithin}
 use Rattle.framing.proofs.Tests.{by_two}
 use Rattle.framing.proofs.Feed.{used_some}
 use Rattle.framing.proofs.Segments.{Accepts}
@@ -34,13 +34,6 @@ over-over long short memory h =
     (ap (λ (k : ℕ). drop k (over short memory)) e ∙ drop-append-add short (drop (length short) memory) (length long - length short)
     ∙ drop-drop (length long - length short) (length short) memory ∙ ap (λ (k : ℕ). drop k memory) (sym e))
 
--- one that is no longer is laid over the run, as it is laid over memory
-pub over_within : (short long memory : List ℕ) → length short ≤ length long → over short (over long memory) ≡ over (over short long) memory
-over_within short long memory h =
-    ap (λ (x : List ℕ). short ++ x) (drop-append-le (length short) long (drop (length long) memory) h)
-    ∙ sym (append_assoc short (drop (length short) long) (drop (length long) memory))
-    ∙ ap (λ (k : ℕ). over short long ++ drop k memory) (sym (over_long short long h))
-
 -- the first bytes of memory, laid over it, change nothing
 pub over_first : (n : ℕ) (memory : List ℕ) → over (take n memory) memory ≡ memory
 over_first n memory = go (leb n (length memory)) refl
@@ -49,15 +42,12 @@ over_first n memory = go (leb n (length memory)) refl
     go true e = rw (length-take-le n memory (leb-true n (length memory) e)) (take-append-drop n memory)
     go false e = let l = leb-false n (length memory) e in rw (take_all n memory (omega arith), drop-length memory) (append-nil memory)
 
-pub over_self : (run : List ℕ) → over run run ≡ run
-over_self run = rw (drop-length run) (append-nil run)
-
 pub places_over : (d g before after : List ℕ) → length d ≤ length before → length g ≤ length before → after ≡ over d (over g before) → Places d g before after
 places_over d g before after h k e =
     rw e
     (record {
       same_length = over_long d (over g before) (omega (arith, over_long g before k)) ∙ over_long g before k;
-      laid = over_below d (over g before);
+      unpacked = over_below d (over g before);
       gathered = λ i l m. over_beyond d (over g before) i l ∙ over_below g before i m;
       untouched = λ i l m. over_beyond d (over g before) i l ∙ over_beyond g before i m;
     })
@@ -71,8 +61,8 @@ module _ (L : Link) (with_last : List ℕ → ℕ → List ℕ) (unpacks : L.Mes
   abbrev pub LaidBy : List ℕ → ℕ → List ℕ → L.Phase → Outcome → Type 0
   LaidBy g b f q none = (f ≡ L.gathered q) × (length g ≤ length (L.gathered q))
   LaidBy g b f q (some e) =
-      ((store : List ℕ) → over f (over g store) ≡ over (laid_by L with_last unpacks q (some e)) (over (with_last g b) store))
-      × (length (with_last g b) ≤ L.size) × (length (laid_by L with_last unpacks q (some e)) ≤ L.size)
+      ((store : List ℕ) → over f (over g store) ≡ over (unpacked_by L with_last unpacks (some e)) (over (with_last g b) store))
+      × (length (with_last g b) ≤ L.size) × (length (unpacked_by L with_last unpacks (some e)) ≤ L.size)
 
   pub record Laid (g : List ℕ) (b : ℕ) (f : List ℕ) (r : L.Phase × Option (Segment L.Message)) : Type 0 where
     pub laid : LaidBy g b f r.0 (event_of r.1)
@@ -103,14 +93,11 @@ module _ (L : Link) (with_last : List ℕ → ℕ → List ℕ) (unpacks : L.Mes
     abbrev given : L.Phase → List ℕ → Fed (Event L.Message) (Lent L) → List ℕ
     given p piece f = gathered_by L with_last unpacks p piece f.used f.event
 
-    abbrev laid : L.Phase → List ℕ → Fed (Event L.Message) (Lent L) → List ℕ
-    laid p piece f = laid_by L with_last unpacks (last L.on_byte p (take f.used piece)) f.event
-
     -- what a call from phase p on leaves in a store that was this one when nothing of the piece was read
     record Left (p : L.Phase) (piece : List ℕ) (f : Fed (Event L.Message) (Lent L)) : Type 0 where
-      lies : f.after.1 ≡ over (laid p piece f) (over (given p piece f) store)
+      lies : f.after.1 ≡ over (unpacked_by L with_last unpacks f.event) (over (given p piece f) store)
       short : length (given p piece f) ≤ L.size
-      shorter : length (laid p piece f) ≤ L.size
+      shorter : length (unpacked_by L with_last unpacks f.event) ≤ L.size
 
     left : (c : Lent L) (p : L.Phase) (piece : List ℕ) → L.phase_of c.0 c.1 ≡ p → laws.Fit p → c.1 ≡ over (L.gathered p) store
         → Left p piece (feed (step_on L) c piece)
@@ -136,10 +123,6 @@ module _ (L : Link) (with_last : List ℕ → ℕ → List ℕ) (unpacks : L.Mes
             let k : 1 + rest.used - 1 ≡ suc (rest.used - 1) = omega (arith, u v refl) in
             rw k
 
-        onward : laid_by L with_last unpacks (last L.on_byte q (take rest.used bs)) rest.event
-            ≡ laid_by L with_last unpacks (last L.on_byte p (take (1 + rest.used) (b ∷ bs))) rest.event
-        onward = rw (one-add rest.used)
-
         go : (o : Outcome) → event_of (L.on_byte p b).1 ≡ o → LaidBy (L.gathered p) b (L.front p b) q o
             → (L.phase_of next.0 next.1 ≡ q → laws.Fit q → next.1 ≡ over (L.gathered q) store → Left q bs rest)
             → Left p (b ∷ bs) (stop next o rest)
@@ -149,9 +132,9 @@ module _ (L : Link) (with_last : List ℕ → ℕ → List ℕ) (unpacks : L.Mes
             let k = ih (goes_on laws c p b h l.0) (laws.fit_next p b h) stored in
             let same = shifted rest.event (λ v w. used_some (step_on L) next bs v w) in
             record {
-              lies = k.lies ∙ ap₂ (λ (x y : List ℕ). over x (over y store)) onward same;
+              lies = k.lies ∙ ap (λ (x : List ℕ). over (unpacked_by L with_last unpacks rest.event) (over x store)) same;
               short = subst (λ (x : List ℕ). length x ≤ L.size) same k.short;
-              shorter = subst (λ (x : List ℕ). length x ≤ L.size) onward k.shorter;
+              shorter = k.shorter;
             }
         go (some v) z l ih =
             record { lies = ap (over (L.front p b)) s ∙ l.0 store; short = l.1; shorter = l.2 }
@@ -162,8 +145,7 @@ module _ (L : Link) (with_last : List ℕ → ℕ → List ℕ) (unpacks : L.Mes
       (let p = L.phase_of c.0 c.1 in
       let f = feed (step_on L) c piece in
       let x = left laws c.1 room c p piece refl (laws.fit_known c.0 c.1 k room) (sym (laws.front-first c.0 c.1)) in
-      places_over (laid_by L with_last unpacks (last L.on_byte p (take f.used piece)) f.event)
-      (gathered_by L with_last unpacks p piece f.used f.event) c.1 f.after.1
+      places_over (unpacked_by L with_last unpacks f.event) (gathered_by L with_last unpacks p piece f.used f.event) c.1 f.after.1
       (omega (arith, x.shorter)) (omega (arith, x.short)) x.lies)
 
   -- what holds of each message that a byte may accept in a fit phase

@@ -64,7 +64,7 @@ small_bytes : (bs : List ℕ) → small bs ≡ true → Bytes bs
 small_bytes [] h = none_bytes
 small_bytes (b ∷ bs) h = let t = and_both (ltb b 256) (small bs) h in bytes_append (b ∷ []) bs (bytes_one b (ltb-true b 256 t.0)) (small_bytes bs t.1)
 
-pub replicate_bytes : (n b : ℕ) → b < 256 → Bytes (replicate n b)
+replicate_bytes : (n b : ℕ) → b < 256 → Bytes (replicate n b)
 replicate_bytes zero b h = none_bytes
 replicate_bytes (suc n) b h = bytes_append (b ∷ []) (replicate n b) (bytes_one b h) (replicate_bytes n b h)
 

@@ -1,6 +1,5 @@
 -- A link's rules cut the stream into segments, and nothing is lost: what the segments and the open frame hold is the stream.
 use Rattle.std.proofs.Common.{◌≡◌, ℕ, suc, ◌+◌, ◌%◌, ◌^◌, ◌<◌, List, [], ◌∷◌, ◌++◌, sym, refl, ap, ◌∙◌, append_assoc, append-nil, arith}
-use mathlib.Core.List.{cons-ne-nil}
 use mathlib.Core.Option.{Option, none, some}
 use lib.Seq.{append_snoc}
 use Rattle.runs.specs.Runs.{Bytes}
@@ -97,19 +96,6 @@ module _ {P M : Type 0} (on_byte : P → ℕ → P × Option (Segment M)) where
   pub heard-events : (c : Config P) (bs : List ℕ) → events (step on_byte) c bs ≡ heard (events on_byte c.phase bs)
   heard-events c [] = refl
   heard-events c (b ∷ bs) = rw heard-emit (ap (emit (event_of (on_byte c.phase b).1)) (heard-events (step on_byte c b).0 bs))
-
-  -- bytes that close nothing leave the noise as it was
-  pub silent-last : (p : P) (n : ℕ) (bs : List ℕ) → events on_byte p bs ≡ []
-      → last (step on_byte) (record { phase = p; noise = n }) bs ≡ record { phase = last on_byte p bs; noise = n }
-  silent-last p n [] h = refl
-  silent-last p n (b ∷ bs) h = go (on_byte p b).1 h (silent-last (on_byte p b).0 n bs)
-    where
-      Stays : ℕ → Type 0
-      Stays k = last (step on_byte) (record { phase = (on_byte p b).0; noise = k }) bs ≡ record { phase = last on_byte (on_byte p b).0 bs; noise = n }
-
-      go : (o : Option (Segment M)) → emit o (events on_byte (on_byte p b).0 bs) ≡ [] → (events on_byte (on_byte p b).0 bs ≡ [] → Stays n) → Stays (noise_after o n)
-      go none h ih = ih h
-      go (some x) h ih = absurd (cons-ne-nil _ _ h)
 
   pub noise_last : (c : Config P) (bs : List ℕ) → c.noise < 2 ^ 32 → (last (step on_byte) c bs).noise ≡ (c.noise + noise_of (events on_byte c.phase bs)) % 2 ^ 32
   noise_last c [] h = omega arith

@@ -26,24 +26,17 @@ module _ (L : Link) (laws : Lawful L) where
   abbrev first : Config L.Phase
   first = at L.hunting 0
 
-  -- by the rules, a frame gives its message, and what follows it is read as if it came first
-  pub frame-heard : (m : L.Message) (rest : List ℕ) → L.ok m ≡ true → L.Typed m
-      → (events (step L.on_byte) first (L.frame m ++ rest) ≡ message m ∷ events (step L.on_byte) first rest)
-      × (last (step L.on_byte) first (L.frame m ++ rest) ≡ last (step L.on_byte) first rest)
-  frame-heard m rest o t =
-      let e = laws.reads-frame m rest 0 t o in (
-        events-feed (step L.on_byte) first (L.frame m ++ rest) ∙ rw (e, drop-append_seam (L.frame m) rest),
-        last-feed (step L.on_byte) first (L.frame m ++ rest) ∙ rw (e, drop-append_seam (L.frame m) rest),
-      )
-
-  -- frames end to end give their messages, and leave plain hunting without noise
+  -- by the rules, frames end to end give their messages, and leave plain hunting without noise
   frames-heard : (ms : List L.Message) → AllOf Sent ms
       → (events (step L.on_byte) first (frames L.frame ms) ≡ map message ms) × (last (step L.on_byte) first (frames L.frame ms) ≡ first)
   frames-heard [] s = (refl, refl)
   frames-heard (m ∷ ms) s =
-      let f = frame-heard m (frames L.frame ms) s.0.0 s.0.1 in
-      let k = frames-heard ms s.1 in
-      (f.0 ∙ ap (λ (es : List (Event L.Message)). message m ∷ es) k.0, f.1 ∙ k.1)
+      let rest : List ℕ = frames L.frame ms in
+      let e = laws.reads-frame m rest 0 s.0.1 s.0.0 in
+      let k = frames-heard ms s.1 in (
+        events-feed (step L.on_byte) first (L.frame m ++ rest) ∙ rw (e, drop-append_seam (L.frame m) rest) (ap (λ (es : List (Event L.Message)). message m ∷ es) k.0),
+        last-feed (step L.on_byte) first (L.frame m ++ rest) ∙ rw (e, drop-append_seam (L.frame m) rest) k.1,
+      )
 
   pub calls_read_back : CallsReadBack L
   calls_read_back calls pieces store t e room =

@@ -1,10 +1,10 @@
 -- What is claimed of every link. The crate `claims` has these for all four.
-use Rattle.std.specs.Prelude.{◌≡◌, ℕ, ◌%◌, ◌^◌, ◌≤◌, true, ◌↔◌, List, [], ◌∷◌, ◌++◌, map, length, take, ◌≢◌}
+use Rattle.std.specs.Prelude.{◌≡◌, ℕ, ◌%◌, ◌^◌, ◌≤◌, true, ◌↔◌, List, [], ◌∷◌, ◌++◌, map, length, take}
 use Rattle.std.proofs.Math.Option.{some}
 use Rattle.runs.specs.Runs.{Bytes, over, Begins}
 use Rattle.framing.specs.Answer.{done}
 use Rattle.framing.specs.Receiver.{Fed, events, last, drive, join}
-use Rattle.framing.specs.Segment.{Segment, refused_frame, accepted_frame, Event, message, heard, noise_of, wires}
+use Rattle.framing.specs.Segment.{Segment, accepted_frame, Event, message, heard, noise_of, wires}
 use Rattle.framing.specs.Writer.{Call, frames, kept, wire}
 use Rattle.framing.specs.Link.{Link, write_on, called}
 
@@ -83,27 +83,6 @@ module _ (L : Link) where
   -- accounted: every byte of a stream belongs to a segment or to what is open, once and in order
   abbrev pub Accounted : Type 0
   Accounted = (bs : List ℕ) → Bytes bs → wires L.frame (segments bs) ++ open_at bs ≡ bs
-
-  -- stays open: where a byte refuses a frame, the refused frame and what stays open are the open frame and that byte; and whatever follows is read
-  -- as a hunting receiver reads it that is first fed what stays open
-  pub record StaysOpen (bs : List ℕ) (b n : ℕ) (wire more : List ℕ) : Type 0 where
-    pub whole : wire ++ open_at (bs ++ (b ∷ [])) ≡ open_at bs ++ (b ∷ [])
-    pub hears : segments (bs ++ (b ∷ more)) ≡ segments bs ++ (refused_frame n wire ∷ segments (open_at (bs ++ (b ∷ [])) ++ more))
-    pub «open» : open_at (bs ++ (b ∷ more)) ≡ open_at (open_at (bs ++ (b ∷ [])) ++ more)
-
-  abbrev pub AfterRefusal : Type 0
-  AfterRefusal =
-      (bs : List ℕ) (b n : ℕ) (wire more : List ℕ) → Bytes (bs ++ (b ∷ []))
-      → (L.on_byte (last L.on_byte L.hunting bs) b).1 ≡ some (refused_frame n wire) → StaysOpen bs b n wire more
-
-  -- new start, of a link whose frames begin with a mark, and its phases in which the mark's first byte is taken for one: the mark refuses the open
-  -- frame with 4, and what follows is read as if the mark came first; after every other refusal nothing stays open
-  pub record NewStart (mark : List ℕ) (Open : L.Phase → Type 0) : Type 0 where
-    pub stays : (bs more : List ℕ) → Open (last L.on_byte L.hunting bs)
-        → segments (bs ++ (mark ++ more)) ≡ segments bs ++ (refused_frame 4 (open_at bs) ∷ segments (mark ++ more))
-    pub others : (bs : List ℕ) (b n : ℕ) (wire : List ℕ)
-        → (L.on_byte (last L.on_byte L.hunting bs) b).1 ≡ some (refused_frame n wire) → (n ≢ 4)
-        → open_at (bs ++ (b ∷ [])) ≡ []
 
   -- calls told: the bytes of any list of calls are the frames of the kept messages end to end; of any two lists the bytes are equal exactly when
   -- the kept messages are, and one's begin the other's exactly when its kept messages do

@@ -8,21 +8,6 @@ pub data Segment (M : Type 0) : Type 0 where
   refused_frame : ℕ → List ℕ → Segment M
   accepted_frame : M → Segment M
 
--- how a byte closes a frame, on every link
-module _ {P : Type 0} (hunting : P) where
-  -- it is the frame's last: by a message or a refusal, nothing stays open
-  abbrev pub after_end : {M : Type 0} → Segment M → P × Option (Segment M)
-  after_end s = (hunting, some s)
-
-  abbrev pub open_or : Option P → P
-  open_or none = hunting
-  open_or (some next) = next
-
-  -- it shows a fault inside the frame: the refused frame ends there, with n and these wire bytes, and the receiver hunts; or it ends just before what
-  -- opens the next frame, and that stays open
-  abbrev pub after_refusal : {M : Type 0} → ℕ → List ℕ → Option P → P × Option (Segment M)
-  after_refusal n wire next = (open_or next, some (refused_frame n wire))
-
 -- what a caller hears of the stream: a message or a refusal
 pub data Event (M : Type 0) : Type 0 where
   message : M → Event M

@@ -23,8 +23,8 @@ after_noise s n = cond (n == 0) s (record { mode = 0; count = 0; «open» = 0; n
 abbrev pub hunted_from : State → List ℕ → ℕ → ℕ → Reached
 hunted_from s piece i mark = record { state = after_noise s (before mark mark (drop i piece)); next = i + before mark mark (drop i piece) }
 
--- the wire bytes held after a byte: those now held, where it closed a segment (what then stays open: Segment.antt) or came in plain hunting (mode 0;
--- the papers leave free what was carried there); else one more, in 32 bits
+-- the wire bytes held after a byte: those now held, where it closed a segment or came in plain hunting (mode 0; the papers leave free what was
+-- carried there); else one more, in 32 bits
 abbrev pub open_after : {M : Type 0} → Option (Segment M) → State → ℕ → ℕ
 open_after none s held = cond (s.mode == 0) held ((s.«open» + 1) % 2 ^ 32)
 open_after (some x) s held = held

@@ -98,7 +98,7 @@ pub fn is_known(state: State, modes: usize, hunting: usize, size: usize) -> bool
     }
 }
 
-// So many wire bytes are open, of which so many are gathered: out of plain hunting, or where a refused frame ends just before what opens the next.
+// So many wire bytes are open, of which so many are gathered: out of plain hunting, or where a new start mark closes a frame.
 pub fn reopen(state: State, mode: usize, count: usize, open: u32) -> State
     ensures { result ≡ record { mode = mode; count = count; «open» = «open»; noise = state.noise } }
 {
@@ -173,7 +173,7 @@ pub fn pass_open(state: State, count: usize, bytes: usize) -> State
     reopen(state, state.mode, count, held)
 }
 
-// The frame is over, by a message or by a refusal after which nothing stays open: plain hunting.
+// The frame is over, by a message or by a refusal but 4: plain hunting.
 pub fn close(state: State) -> State
     ensures { result ≡ record { mode = 0; count = 0; «open» = 0; noise = state.noise } }
 {

@@ -3,16 +3,15 @@
 use Rattle.std.proofs.Common.{◌≡◌, ℕ, ◌+◌, ◌<◌, ◌≤◌, true, cond, ◌&&◌, eqb, ltb, leb, List, [], ◌∷◌, ◌++◌, length, refl, arith, length-append, length-take-le, ltb-true, le-ltb, lt-ltb, ne_eqb, eqb-true, le-leb, leb-true}
 use mathlib.Core.Option.{Option}
 use Rattle.runs.proofs.Cases.{by_eqb, by_ltb, and_both}
-use Rattle.framing.specs.Segment.{Segment, open_or, noise_after}
+use Rattle.framing.specs.Segment.{Segment, noise_after}
 use Rattle.framing.specs.State.{open_after}
 use Rattle.framing.specs.State as Shared
 use Rattle.mdu.specs.Frame.{Message, length_ok}
-use Rattle.mdu.specs.Rules.{Phase, hunting, in_header, in_body, size, gathered, held, stated, header_fault, kept_part, opens, enter, on_byte}
+use Rattle.mdu.specs.Rules.{Phase, hunting, in_header, in_body, size, gathered, held, stated, header_fault, enter, on_byte}
 use Rattle.mdu.specs.Contract.{known_state, mode_of, length_of, phase_of, state_after}
 use Rattle.mdu.specs.Steps.{ToCome}
 use Rattle.mdu.specs.declared.State.{State}
 use Rattle.mdu.proofs.Passed.{passed}
-use Rattle.mdu.proofs.Kept.{kept_fewer}
 
 -- how many bytes each phase has gathered
 abbrev pub Sized : Phase → Type 0
@@ -41,11 +40,7 @@ enter_sized : (g : List ℕ) → length g ≡ 6 → Sized (enter g).0
 enter_sized g l =
     by_eqb (λ (r : Phase × Option (Segment Message)). Sized r.0) (header_fault g) 0
     (λ z. let k = (passed g z).allowed in record { allowed = k; low = omega arith; high = omega arith; most = length_most (stated g) k })
-    (λ _. opens_sized (kept_part g) (omega (arith, kept_fewer g (omega arith))))
-  where
-    opens_sized : (x : List ℕ) → length x < 6 → Sized (open_or hunting (opens x))
-    opens_sized [] h = tt
-    opens_sized (b ∷ x) h = (omega arith, h)
+    (λ _. tt)
 
 pub sized_next : (p : Phase) (b : ℕ) → Sized p → Sized (on_byte p b).0
 sized_next hunting b h = by_eqb (λ (r : Phase × Option (Segment Message)). Sized r.0) b 0xE3 (λ _. (omega arith, omega arith)) (λ _. tt)

@@ -1,15 +1,15 @@
 -- The MDU link has all that the claims of every link rest on.
-use Rattle.std.proofs.Common.{◌≡◌, ℕ, zero, suc, ◌^◌, ◌<◌, ◌≤◌, true, leb, List, ◌++◌, length, take, refl, ap, arith, lit<, le-ltb, lt-ltb}
+use Rattle.std.proofs.Common.{◌≡◌, ℕ, zero, suc, ◌^◌, ◌<◌, true, leb, List, ◌++◌, length, take, refl, ap, arith, lit<, le-ltb, lt-ltb}
 use Rattle.runs.specs.Runs.{Bytes}
 use Rattle.runs.proofs.Cases.{by_eqb, by_ltb, and_both}
 use Rattle.runs.proofs.Bytes.{bytes_append}
 use Rattle.framing.proofs.States.{shared_next, shared_leaves}
 use Rattle.framing.proofs.States as Shared
-use Rattle.framing.proofs.Lawful.{Lawful, at, Counts, counts_of_lem}
+use Rattle.framing.proofs.Lawful.{Lawful}
 use Rattle.checksum.specs.Crc.{crc16_of}
 use Rattle.checksum.proofs.CheckValue.{crc16_lt}
 use Rattle.mdu.specs.Frame.{Message, Typed, length_ok, ok, header, trailer, frame}
-use Rattle.mdu.specs.Rules.{Phase, hunting, in_header, in_body, size, gathered, held}
+use Rattle.mdu.specs.Rules.{Phase, hunting, in_header, in_body, gathered, held}
 use Rattle.mdu.specs.Contract.{mode_of, length_of, phase_of, link}
 use Rattle.mdu.specs.declared.State.{State}
 use Rattle.mdu.proofs.Known.{length_most, sized_known}
@@ -17,7 +17,7 @@ use Rattle.mdu.proofs.Entered.{Good, good_sized, reached}
 use Rattle.mdu.proofs.OnByte.{takes}
 use Rattle.mdu.proofs.Readback.{reads-frame}
 
-abbrev pub state_of : Phase → ℕ → State
+abbrev state_of : Phase → ℕ → State
 state_of p n = record { base = Shared.state_of mode_of gathered held p n; length = length_of p }
 
 phase_of_lem : (p : Phase) (n : ℕ) (store : List ℕ) → Good p → take (length (gathered p)) store ≡ gathered p → phase_of (state_of p n) store ≡ p
@@ -75,9 +75,3 @@ lawful =
       frame_filled = λ m. omega arith;
       reads-frame = λ m rest n t o. reads-frame m rest n o;
     }
-
--- the state of a phase that is reached stands for it, with what is gathered in the store
-pub counts : (p : Phase) (n : ℕ) (store : List ℕ) → Good p → take (length (gathered p)) store ≡ gathered p → size ≤ length store
-    → Counts link lawful (state_of p n, store) (at p n)
-unfolding lawful
-counts p n store g h r = counts_of_lem link lawful p n (state_of p n) store refl g h r

@@ -1,8 +1,6 @@
--- `Passed`, `Kept`, `Entered`, `OnByte`, `Readback` and `Known` have the laws of the rules, `Lawful` gathers them, `Numbers`, `Places` which numbers
--- it gives and what it leaves in the store, `FalseStart` what a refused header leaves, `Theorems` has what is claimed. `Store`, `Steps`, `Body` and
--- `Written` are for the code.
+-- `Passed`, `Entered`, `OnByte`, `Readback` and `Known` have the laws of the rules, `Lawful` gathers them, `Numbers`, `Places` which numbers it gives and what it leaves in the store, `Theorems` has what is claimed. `Store`,
+-- `Steps`, `Body` and `Written` are for the code.
 pub mod Passed
-pub mod Kept
 pub mod Entered
 pub mod OnByte
 pub mod Readback
@@ -11,7 +9,6 @@ pub mod Typed
 pub mod Lawful
 pub mod Numbers
 pub mod Places
-pub mod FalseStart
 pub mod Theorems
 pub mod Store
 pub mod Steps

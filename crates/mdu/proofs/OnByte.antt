@@ -1,63 +1,30 @@
 -- What a byte does by the rules.
-use Rattle.std.proofs.Common.{◌≡◌, ℕ, suc, ◌+◌, ◌*◌, ◌/◌, ◌%◌, ◌<◌, ◌≤◌, Bool, true, false, cond, eqb, List, [], ◌∷◌, ◌++◌, length, get_or, take, sym, refl, ap, ◌∙◌, subst, append_assoc, arith, length-append, length-drop, take-append-drop, length-take-le, get_or-append-add, eqb-true, le-leb}
+use Rattle.std.proofs.Common.{◌≡◌, ℕ, suc, ◌+◌, ◌*◌, ◌/◌, ◌%◌, ◌<◌, ◌≤◌, Bool, true, false, cond, eqb, List, [], ◌∷◌, ◌++◌, length, get_or, take, sym, refl, ap, ◌∙◌, subst, arith, length-append, length-take-le, get_or-append-add, eqb-true, le-leb}
 use mathlib.Core.Option.{Option, none, some}
 use lib.ListN.{get_or-append}
 use lib.Seq.{take-append_seam}
 use Rattle.runs.specs.Runs.{Bytes, over}
-use Rattle.runs.proofs.Bytes.{bytes_one, bytes_more, bytes_drop}
+use Rattle.runs.proofs.Bytes.{bytes_one, bytes_more}
 use Rattle.runs.proofs.Cases.{by_eqb}
-use Rattle.framing.specs.Segment.{Segment, noise, refused_frame, accepted_frame, open_or}
-use Rattle.framing.proofs.Byte.{data_stands, Takes, goes_on, reopens, closes}
-use Rattle.framing.proofs.Places.{over_self}
+use Rattle.framing.specs.Segment.{Segment, noise, refused_frame, accepted_frame}
+use Rattle.framing.proofs.Byte.{data_stands, Takes, goes_on, closes}
 use Rattle.checksum.specs.Crc.{crc16_of}
 use Rattle.mdu.specs.Frame.{Message, length_ok, header, trailer, frame}
-use Rattle.mdu.specs.Rules.{Phase, hunting, in_header, in_body, size, gathered, held, stated, sent_check, header_fault, next_start, kept_part, opens, refuse_header, enter, finish, on_byte}
+use Rattle.mdu.specs.Rules.{Phase, hunting, in_header, in_body, size, gathered, held, stated, sent_check, header_fault, enter, finish, on_byte}
 use Rattle.mdu.specs.Contract.{front, numbers_of, message_of}
 use Rattle.mdu.proofs.Known.{length_most}
 use Rattle.mdu.proofs.Typed.{typed}
 use Rattle.mdu.proofs.Passed.{passed}
-use Rattle.mdu.proofs.Kept.{kept_fewer, kept-first, gathered-opens, opens_quiet}
 use Rattle.mdu.proofs.Entered.{Good, reached, entered, two}
 
 -- a byte that leads to r: it is gathered, where w is what is then held, which stands at the start of the store
 abbrev Next : List ℕ → List ℕ → Phase × Option (Segment Message) → Type 0
 Next g w r = Takes reached g w w r
 
--- the same of a header's byte: what is gathered after it then lies over w
-abbrev Heads : List ℕ → List ℕ → Phase × Option (Segment Message) → Type 0
-Heads g w r = Takes reached g w (over (gathered r.0) w) r
-
-heads_on : (g w : List ℕ) (q : Phase) → gathered q ≡ w → Good q → Heads g w (q, none)
-heads_on g w q e h =
-    subst (λ (f : List ℕ). Takes reached g w f (q, none)) (e ∙ sym (ap (λ (x : List ℕ). over x w) e ∙ over_self w)) (goes_on reached g w q e h)
-
-pub opens_good : (x : List ℕ) → Bytes x → length x ≤ 5 → (1 ≤ length x → get_or x 0 0 ≡ 0xE3) → Good (open_or hunting (opens x))
-opens_good [] y l e = tt
-opens_good (b ∷ x) y l e = (y, omega arith, l, e (omega arith))
-
--- a refused header: what it keeps stays open
-refuse_takes : (g w : List ℕ) (n : ℕ) → length w ≡ 6 → Bytes w → Heads g w (refuse_header n w)
-refuse_takes g w n l y =
-    reopens reached g w (open_or hunting (opens (kept_part w))) n (take (next_start w) w) (over (gathered (open_or hunting (opens (kept_part w)))) w)
-    (ap (λ (x : List ℕ). take (next_start w) w ++ x) is ∙ take-append-drop (next_start w) w)
-    (opens_good (kept_part w) (bytes_drop (next_start w) w y) few first) (rw is (opens_quiet (kept_part w) few first))
-    (simp (length-append, length-drop) (omega (arith, few, ap length is)))
-    (λ store. ap (take (length (gathered (open_or hunting (opens (kept_part w)))))) (append_assoc (gathered (open_or hunting (opens (kept_part w)))) _ _)
-    ∙ take-append_seam (gathered (open_or hunting (opens (kept_part w)))) _)
-  where
-    is : gathered (open_or hunting (opens (kept_part w))) ≡ kept_part w
-    is = gathered-opens (kept_part w)
-
-    few : length (kept_part w) ≤ 5
-    few = omega (arith, kept_fewer w (omega arith))
-
-    first : 1 ≤ length (kept_part w) → get_or (kept_part w) 0 0 ≡ 0xE3
-    first = kept-first w (omega arith)
-
-enter-takes : (g w : List ℕ) → length w ≡ 6 → Bytes w → get_or w 0 0 ≡ 0xE3 → Heads g w (enter w)
+enter-takes : (g w : List ℕ) → length w ≡ 6 → Bytes w → get_or w 0 0 ≡ 0xE3 → Next g w (enter w)
 enter-takes g w l y e =
-    by_eqb (Heads g w) (header_fault w) 0 (λ z. heads_on g w (in_body (stated w) w) refl (entered w l y e (passed w z)))
-    (λ _. refuse_takes g w (header_fault w) l y)
+    by_eqb (Next g w) (header_fault w) 0 (λ z. goes_on reached g w (in_body (stated w) w) refl (entered w l y e (passed w z)))
+    (λ _. closes reached g w w (refused_frame (header_fault w) w) refl (omega arith) tt)
 
 -- a message whose frame stands at the start of the store is read there
 read_back : (m : Message) (w store : List ℕ) → frame m ≡ w → message_of (over w store) (numbers_of m) ≡ m
@@ -106,9 +73,9 @@ takes hunting b y h = go (eqb b 0xE3) (eqb-true b 0xE3)
     go false e = closes reached [] (b ∷ []) [] (noise (b ∷ [])) refl (omega arith) tt
 takes (in_header g) b y h =
     let first = get_or-append g (b ∷ []) 0 0 (omega (arith, h.1)) ∙ h.3 in
-    by_eqb (Heads g (g ++ (b ∷ []))) (length g) 5
+    by_eqb (Next g (g ++ (b ∷ []))) (length g) 5
     (λ e. enter-takes g (g ++ (b ∷ [])) (simp length-append (omega arith)) (bytes_more g b h.0 y) first)
-    (λ n. heads_on g _ (in_header (g ++ (b ∷ []))) refl
+    (λ n. goes_on reached g _ (in_header (g ++ (b ∷ []))) refl
     (bytes_more g b h.0 y, simp length-append (omega arith), simp length-append (omega arith), first))
 takes (in_body k g) b y h =
     by_eqb (Next g (g ++ (b ∷ []))) (length g) (7 + k)

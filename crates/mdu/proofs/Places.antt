@@ -1,17 +1,16 @@
 -- What a call leaves in the store.
-use Rattle.std.proofs.Common.{◌≡◌, ℕ, ◌+◌, ◌≤◌, Bool, true, false, cond, eqb, List, [], ◌∷◌, ◌++◌, length, take, drop, sym, refl, ap, ◌∙◌, arith, length-append, length-take, le-ltb, lt-ltb}
+use Rattle.std.proofs.Common.{◌≡◌, ℕ, ◌+◌, ◌≤◌, Bool, true, false, cond, eqb, List, [], ◌∷◌, ◌++◌, length, take, drop, refl, ap, arith, length-append, length-take, le-ltb, lt-ltb}
 use mathlib.Core.Option.{Option, none, some}
 use Rattle.runs.specs.Runs.{over}
 use Rattle.runs.proofs.Cases.{by_eqb, by_ltb}
-use Rattle.framing.specs.Segment.{Segment, noise, open_or}
+use Rattle.framing.specs.Segment.{Segment, noise}
 use Rattle.framing.proofs.Segments.{Accepts}
-use Rattle.framing.proofs.Places.{over-over, over_within, over_first, over_self, Laid, Storing}
+use Rattle.framing.proofs.Places.{over-over, over_first, Laid, Storing}
 use Rattle.checksum.specs.Crc.{crc16_of}
 use Rattle.mdu.specs.Frame.{Message}
-use Rattle.mdu.specs.Rules.{Phase, hunting, in_header, in_body, size, gathered, stated, sent_check, header_fault, kept_part, opens, enter, finish, on_byte}
+use Rattle.mdu.specs.Rules.{Phase, hunting, in_header, in_body, size, gathered, sent_check, header_fault, enter, finish, on_byte}
 use Rattle.mdu.specs.Contract.{phase_of, state_after, front, link}
 use Rattle.mdu.specs.declared.State.{State}
-use Rattle.mdu.proofs.Kept.{kept_fewer, gathered-opens}
 use Rattle.mdu.proofs.Known.{Sized, sized_next, known_sized}
 
 -- a byte that leads to r, where g was gathered and f is then laid over the store
@@ -29,29 +28,10 @@ module _ (g : List ℕ) (b : ℕ) (h : 1 + length g ≤ size) where
   longer : length g ≤ length (g ++ (b ∷ []))
   longer = simp length-append (omega arith)
 
-  -- a header's byte: what is gathered after it then lies over those gathered
-  abbrev Heads : Phase × Option (Segment Message) → Type 0
-  Heads r = Next g b (over (gathered r.0) more) r
-
-  heads_on : (q : Phase) → gathered q ≡ more → Heads (q, none)
-  heads_on q e = record { laid = (ap (λ (x : List ℕ). over x more) e ∙ over_self more ∙ sym e, rw e longer) }
-
-  enter_lays : length more ≡ 6 → Heads (enter more)
-  enter_lays l =
-      by_eqb Heads (header_fault more) 0 (λ _. heads_on (in_body (stated more) more) refl)
-      (λ _. record {
-        laid = (
-          λ store. sym (over_within opened more (over g store) few) ∙ ap (over opened) (over-over more g store longer),
-          fits,
-          omega (arith, few),
-        );
-      })
-    where
-      opened : List ℕ
-      opened = gathered (open_or hunting (opens (kept_part more)))
-
-      few : length (gathered (open_or hunting (opens (kept_part more)))) ≤ length more
-      few = omega (arith, ap length (gathered-opens (kept_part more)), kept_fewer more (omega arith))
+  enter_lays : Next g b more (enter more)
+  enter_lays =
+      by_eqb (Next g b more) (header_fault more) 0 (λ _. record { laid = (refl, longer) })
+      (λ _. record { laid = (λ store. over-over more g store longer, fits, omega arith) })
 
   finish_lays : (k : ℕ) → Next g b more (hunting, some (finish k more))
   finish_lays k =
@@ -72,9 +52,8 @@ lays hunting b h = go (eqb b 0xE3)
     go true = record { laid = (refl, omega arith) }
     go false = record { laid = (refl, omega arith) }
 lays (in_header g) b h =
-    by_eqb (Heads g b (room_left (in_header g) h)) (length g) 5
-    (λ e. enter_lays g b (room_left (in_header g) h) (simp length-append (omega arith)))
-    (λ _. heads_on g b (room_left (in_header g) h) (in_header (g ++ (b ∷ []))) refl)
+    by_eqb (Next g b (g ++ (b ∷ []))) (length g) 5 (λ _. enter_lays g b (room_left (in_header g) h))
+    (λ _. record { laid = (refl, longer g b (room_left (in_header g) h)) })
 lays (in_body k g) b h =
     by_eqb (Next g b (g ++ (b ∷ []))) (length g) (7 + k) (λ _. finish_lays g b (room_left (in_body k g) h) k)
     (λ _. record { laid = (refl, longer g b (room_left (in_body k g) h)) })

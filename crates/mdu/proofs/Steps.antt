@@ -1,24 +1,18 @@
 -- What the code does for a byte is what the rules give.
-use Rattle.std.proofs.Common.{◌≡◌, ℕ, ◌≤◌, List, [], ◌∷◌, length, take, drop, refl, ap, arith, lit<, get_or-take, eq-eqb, ne_eqb}
+use Rattle.std.proofs.Common.{◌≡◌, ℕ, List, length, take, drop, refl, ap, arith, lit<, get_or-take, eq-eqb, ne_eqb}
 use mathlib.Core.Option.{Option, none, some}
 use Rattle.runs.proofs.Cases.{by_eqb}
-use Rattle.framing.specs.Segment.{Segment, refused_frame, after_refusal, event_of, noise_after}
+use Rattle.framing.specs.Segment.{Segment, refused_frame, event_of, noise_after}
 use Rattle.framing.specs.Link.{told}
-use Rattle.framing.specs.declared.State as Base
 use Rattle.checksum.specs.Crc.{crc16_of}
 use Rattle.mdu.specs.Frame as Frame
-use Rattle.mdu.specs.Rules.{Phase, hunting, in_body, gathered, stated, sent_check, header_fault, opens, refuse_header, enter, finish}
+use Rattle.mdu.specs.Rules.{Phase, hunting, in_body, gathered, stated, sent_check, header_fault, enter, finish}
 use Rattle.mdu.specs.Contract.{mode_of, length_of, link, told_of}
 use Rattle.mdu.specs.Steps.{ended_with, gone_on, ByRules}
 use Rattle.mdu.specs.declared.State.{State}
 use Rattle.mdu.specs.declared.Event.{Event}
 use Rattle.mdu.specs.declared.Event.TheVariants.{Refused}
 use Rattle.mdu.specs.declared.receiver.Stepped.{Stepped}
-
--- a refused frame is over, and so many bytes stay open
-abbrev reopened_with : Base.State → ℕ → Event → Stepped
-reopened_with base count event =
-    record { event = event; state = record { base = record { mode = 1; count = count; «open» = count; noise = base.noise }; length = 0 } }
 
 module _ (s : State) (c : Phase × Option (Segment Frame.Message)) (r : Stepped) where
   -- the frame goes on
@@ -32,15 +26,8 @@ module _ (s : State) (c : Phase × Option (Segment Frame.Message)) (r : Stepped)
       → noise_after (some x) s.base.noise ≡ s.base.noise → r ≡ ended_with s.base event → ByRules s c r
   by_rules_end x event e t n k = rw (e, k) (record { tells = t; state = rw n })
 
-  -- a refused header, of which x is kept: none, or some
-  pub by_rules_over : (n : ℕ) (w x : List ℕ) → c ≡ after_refusal hunting n w (opens x) → length x ≡ 0 → r ≡ ended_with s.base (Refused n) → ByRules s c r
-  by_rules_over n w [] e z k = by_rules_end (refused_frame n w) (Refused n) e refl refl k
-  by_rules_over n w (b ∷ x) e z k = absurd (omega arith)
-
-  pub by_rules_kept : (n : ℕ) (w x : List ℕ) → c ≡ after_refusal hunting n w (opens x) → 1 ≤ length x → r ≡ reopened_with s.base (length x) (Refused n)
-      → ByRules s c r
-  by_rules_kept n w [] e z k = absurd (omega arith)
-  by_rules_kept n w (b ∷ x) e z k = rw (e, k) (record { tells = refl; state = refl })
+  pub by_rules_refused : (n : ℕ) (g : List ℕ) → c ≡ (hunting, some (refused_frame n g)) → r ≡ ended_with s.base (Refused n) → ByRules s c r
+  by_rules_refused n g e k = by_rules_end (refused_frame n g) (Refused n) e refl refl k
 
   pub by_rules_finish : (k : ℕ) (g : List ℕ) (event : Event) → c ≡ (hunting, some (finish k g)) → told_of event ≡ told link (event_of (some (finish k g)))
       → r ≡ ended_with s.base event → ByRules s c r
@@ -51,7 +38,7 @@ module _ (s : State) (c : Phase × Option (Segment Frame.Message)) (r : Stepped)
 
 -- byte six, with the header at the start of a store
 module _ (store : List ℕ) where
-  pub enter_fault : (header_fault (take 6 store) ≡ 0 → ⊥) → enter (take 6 store) ≡ refuse_header (header_fault (take 6 store)) (take 6 store)
+  pub enter_fault : (header_fault (take 6 store) ≡ 0 → ⊥) → enter (take 6 store) ≡ (hunting, some (refused_frame (header_fault (take 6 store)) (take 6 store)))
   enter_fault h = rw (ne_eqb (header_fault (take 6 store)) 0 h)
 
   pub enter-body : header_fault (take 6 store) ≡ 0 → enter (take 6 store) ≡ (in_body (stated store) (take 6 store), none)

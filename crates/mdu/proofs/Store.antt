@@ -1,16 +1,11 @@
 -- The store after a gathered byte, what the rules make of the byte, and what they read in the store at the end of a frame.
 use Rattle.std.proofs.Common.{◌≡◌, ℕ, ◌+◌, ◌<◌, ◌≤◌, List, [], ◌∷◌, ◌++◌, length, get_or, take, drop, set, sym, ap, ◌∙◌, add-one, arith, length-drop, length-take-le, get_or-take, take-take, take-suc-set, take-add, drop_at, eq-eqb, ne_eqb}
-use mathlib.Core.Option.{Option, none, some}
-use Rattle.runs.specs.Runs.{over}
-use Rattle.runs.proofs.Run.{more_count, more-over}
-use Rattle.framing.specs.Segment.{Segment, event_of}
+use mathlib.Core.Option.{none, some}
+use Rattle.framing.specs.Segment.{event_of}
 use Rattle.framing.specs.Link.{told, accepted, refused}
-use Rattle.framing.proofs.Places.{over_within, over_self}
 use Rattle.checksum.specs.Crc.{crc16_of}
-use Rattle.mdu.specs.Frame.{Message}
-use Rattle.mdu.specs.Rules.{Phase, hunting, in_header, in_body, gathered, sent_check, enter, finish, on_byte}
-use Rattle.mdu.specs.Contract.{front, link}
-use Rattle.mdu.proofs.Kept.{enter_within}
+use Rattle.mdu.specs.Rules.{hunting, in_header, in_body, sent_check, enter, finish, on_byte}
+use Rattle.mdu.specs.Contract.{link}
 
 module _ (store : List ℕ) (at b : ℕ) where
   pub more-take : at < length store → take (at + 1) (set store at b) ≡ take at store ++ (b ∷ [])
@@ -28,25 +23,6 @@ module _ (store : List ℕ) (at b : ℕ) where
 
     pub header_goes_on : (at ≡ 5 → ⊥) → on_byte (in_header (take at store)) b ≡ (in_header (take at store ++ (b ∷ [])), none)
     header_goes_on n = rw (ne_eqb (length (take at store)) 5 (λ e. n (sym taken ∙ e)))
-
-    -- and the store then
-    pub header_stores : (at ≡ 5 → ⊥) → set store at b ≡ over (front (in_header (take at store)) b) store
-    header_stores n =
-        more-over store at b h
-        ∙ ap (λ (x : List ℕ). over x store)
-        (sym (over_self (take at store ++ (b ∷ []))) ∙ ap (λ (r : Phase × Option (Segment Message)). over (gathered r.0) (take at store ++ (b ∷ []))) (sym (header_goes_on n)))
-
-    pub enter_stores : at ≡ 5 → over (gathered (enter (take 6 (set store at b))).0) (set store at b) ≡ over (front (in_header (take at store)) b) store
-    enter_stores e =
-        ap (λ (r : Phase × Option (Segment Message)). over (gathered r.0) (set store at b)) (sym (header_enters e))
-        ∙ ap (over (gathered (on_byte (in_header (take at store)) b).0)) (more-over store at b h)
-        ∙ over_within (gathered (on_byte (in_header (take at store)) b).0) (take at store ++ (b ∷ [])) store few
-      where
-        few : length (gathered (on_byte (in_header (take at store)) b).0) ≤ length (take at store ++ (b ∷ []))
-        few =
-            let k : 6 ≡ at + 1 = omega arith in
-            let long = more_count store at b (omega arith) in
-            rw (header_enters e) (omega (arith, long, enter_within (take 6 (set store at b)) (rw (k, more-take h) long)))
 
     -- the last byte of a body of k, and a byte before it
     pub body_finishes : (k : ℕ) → at ≡ 7 + k → on_byte (in_body k (take at store)) b ≡ (hunting, some (finish k (take (8 + k) (set store at b))))

@@ -1,5 +1,4 @@
--- What is claimed of the MDU link besides the claims on every link, which follow from `lawful` (framing/proofs/Lawful.antt, Reopened.antt, Wire.antt,
--- Whole.antt); and what its check value detects.
+-- What is claimed of the MDU link besides the claims on every link, which follow from `lawful` (framing/proofs/Lawful.antt, Wire.antt, Whole.antt); and what its check value detects.
 use Rattle.framing.proofs.Refusals as any
 use Rattle.framing.proofs.Places as Places
 use Rattle.std.proofs.Common.{[], ◌∷◌, ◌++◌}
@@ -7,11 +6,9 @@ use Rattle.checksum.specs.Claims.{Crc16Detects}
 use Rattle.checksum.proofs.CheckValue.{crc16_detects}
 use Rattle.mdu.specs.Contract.{link}
 use Rattle.mdu.specs.Claims.{stream_numbers, GivesExactly, ReceiveGives, StoresGathered, DataWithin}
-use Rattle.mdu.specs.FalseStart.{HeadersJudged, RefusesHeader, Resumes, FinalNotRescanned, FalseStarts, FalseStartsHeard}
 use Rattle.mdu.proofs.Lawful.{lawful}
 use Rattle.mdu.proofs.Numbers.{given}
 use Rattle.mdu.proofs.Places.{storing, few}
-use Rattle.mdu.proofs.FalseStart as FalseStart
 
 -- a stream gives exactly these numbers
 pub gives_exactly : GivesExactly
@@ -28,28 +25,6 @@ stores_gathered = Places.stores_gathered link (λ g b. g ++ (b ∷ [])) (λ m. [
 -- how much data a message has that a call tells
 pub data_within : DataWithin
 data_within = Places.data_within link (λ g b. g ++ (b ∷ [])) (λ m. []) storing (λ v. v.length) 1025 few
-
--- which number a header is refused with
-pub headers_judged : HeadersJudged
-headers_judged = FalseStart.headers_judged
-
--- what a refused header leaves: the answer, the state and the store; and a receiver that goes on as a hunting one fed the kept bytes
-pub refuses-header : RefusesHeader
-refuses-header = FalseStart.refuses-header
-
-pub resumes : Resumes
-resumes = FalseStart.resumes
-
--- only a header is looked through again
-pub final_not_rescanned : FinalNotRescanned
-final_not_rescanned = FalseStart.final_not_rescanned
-
--- false E3s before a frame cost only themselves, in the stream and as it is heard
-pub false-starts : FalseStarts
-false-starts = FalseStart.false-starts
-
-pub false_starts_heard : FalseStartsHeard
-false_starts_heard = FalseStart.false_starts_heard
 
 -- two bodies of equal length that differ only within two neighbouring bytes have different check values
 pub check_value : Crc16Detects

@@ -15,7 +15,7 @@ GivesExactly = Refusals.GivesExactly link stream_numbers
 abbrev pub ReceiveGives : Type 0
 ReceiveGives = Refusals.ReceiveGives link stream_numbers
 
--- a byte that makes an event is gathered like any other; nothing is unpacked, and what a refused header keeps is then laid at the front
+-- a byte that makes an event is gathered like any other; nothing is unpacked
 abbrev pub StoresGathered : Type 0
 StoresGathered = Places.StoresGathered link (λ g b. g ++ (b ∷ [])) (λ m. [])
 

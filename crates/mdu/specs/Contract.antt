@@ -1,7 +1,6 @@
 -- What the functions of the MDU link answer and leave, for every input.
 use Rattle.std.specs.Prelude.{ℕ, ◌+◌, Bool, true, cond, ◌&&◌, List, [], ◌∷◌, ◌++◌, length, take, ◌==◌, nat_le, nat_lt}
 use Rattle.std.proofs.Math.Option.{Option}
-use Rattle.runs.specs.Runs.{over}
 use Rattle.framing.specs.Segment.{Segment}
 use Rattle.framing.specs.State as Shared
 use Rattle.framing.specs.Link.{Link, Lent, Told, nothing, accepted, refused, data_at}
@@ -45,10 +44,10 @@ phase_of s store =
 abbrev pub state_after : State → Phase → Option (Segment Frame.Message) → State
 state_after s p o = record { base = Shared.state_after mode_of gathered held s.base p o; length = length_of p }
 
--- the byte that makes an event is gathered too; what a refused header leaves open is then laid over the start, and behind it all stays as it is
+-- the byte that makes an event is gathered too
 abbrev pub front : Phase → ℕ → List ℕ
 front hunting b = cond (b == 0xE3) (b ∷ []) []
-front (in_header g) b = over (gathered (on_byte (in_header g) b).0) (g ++ (b ∷ []))
+front (in_header g) b = g ++ (b ∷ [])
 front (in_body k g) b = g ++ (b ∷ [])
 
 -- the numbers told of a message

@@ -1,8 +1,7 @@
 -- The rules of the MDU receiver: what each byte does, over the gathered bytes as a list, with no store.
 use Rattle.std.specs.Prelude.{ℕ, ◌+◌, ◌*◌, Bool, cond, not, List, [], ◌∷◌, ◌++◌, length, take, drop, ◌==◌, slice_index}
 use Rattle.std.proofs.Math.Option.{Option, none, some}
-use Rattle.runs.specs.Runs.{before}
-use Rattle.framing.specs.Segment.{Segment, noise, refused_frame, accepted_frame, after_end, after_refusal}
+use Rattle.framing.specs.Segment.{Segment, noise, refused_frame, accepted_frame}
 use Rattle.framing.specs.Tests.{first_of}
 use Rattle.checksum.specs.Crc.{crc16_of}
 use Rattle.mdu.specs.Frame.{Message, length_ok, header_sum}
@@ -49,34 +48,17 @@ header_tests g =
 unfoldable pub header_fault : List ℕ → ℕ
 header_fault g = first_of (header_tests g)
 
--- the place of the first E3 behind the first of six bytes; 6 where there is none
-abbrev pub next_start : List ℕ → ℕ
-next_start g = 1 + before 0xE3 0xE3 (drop 1 g)
-
--- the bytes from there on are kept of a refused header ..
-abbrev pub kept_part : List ℕ → List ℕ
-kept_part g = drop (next_start g) g
-
--- .. and open the next frame, if there are any
-abbrev pub opens : List ℕ → Option Phase
-opens [] = none
-opens (b ∷ g) = some (in_header (b ∷ g))
-
--- refused are those before them
-abbrev pub refuse_header : ℕ → List ℕ → Phase × Option (Segment Message)
-refuse_header n g = after_refusal hunting n (take (next_start g) g) (opens (kept_part g))
-
 -- byte six: the body follows, or the header is refused
 abbrev pub enter : List ℕ → Phase × Option (Segment Message)
-enter g = cond (header_fault g == 0) (in_body (stated g) g, none) (refuse_header (header_fault g) g)
+enter g = cond (header_fault g == 0) (in_body (stated g) g, none) (hunting, some (refused_frame (header_fault g) g))
 
 -- the last byte of a body of k: 8 where the check value differs
 abbrev pub finish : ℕ → List ℕ → Segment Message
 finish k g =
     cond (sent_check k g == crc16_of (body_part k g)) (accepted_frame (record { address = slice_index g 4; body = body_part k g })) (refused_frame 8 g)
 
--- hunting looks for E3, which inside a frame is a byte like any other: only a refused header is looked through for it
+-- hunting looks for E3, which inside a frame is a byte like any other
 abbrev pub on_byte : Phase → ℕ → Phase × Option (Segment Message)
 on_byte hunting b = cond (b == 0xE3) (in_header (b ∷ []), none) (hunting, some (noise (b ∷ [])))
 on_byte (in_header g) b = cond (length g == 5) (enter (g ++ (b ∷ []))) (in_header (g ++ (b ∷ [])), none)
-on_byte (in_body k g) b = cond (length g == 7 + k) (after_end hunting (finish k (g ++ (b ∷ [])))) (in_body k (g ++ (b ∷ [])), none)
+on_byte (in_body k g) b = cond (length g == 7 + k) (hunting, some (finish k (g ++ (b ∷ [])))) (in_body k (g ++ (b ∷ [])), none)

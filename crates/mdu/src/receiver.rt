@@ -5,7 +5,7 @@ ghost use Rattle.runs.specs.Runs.{over};
 ghost use Rattle.framing.specs.Receiver.{feed};
 ghost use Rattle.framing.specs.Segment.{event_of};
 ghost use Rattle.framing.specs.Link.{is_event, told, step_on, reported};
-ghost use Rattle.mdu.specs.Rules.{hunting, in_header, in_body, size, gathered, header_fault, refuse_header, enter, finish, on_byte};
+ghost use Rattle.mdu.specs.Rules.{hunting, in_header, in_body, size, header_fault, enter, finish, on_byte};
 ghost use Rattle.mdu.specs.Contract.{known_state, phase_of, front, link, told_of, received_of};
 ghost use Rattle.mdu.specs.Steps.{ended_with, gone_on, ByRules, Open, ToCome, AtLast, Passes};
 
@@ -132,39 +132,17 @@ fn header_fault(gathered: &[u8]) -> u8
     0
 }
 
-// A refused header: what it keeps stays open as the next frame, at the front; where it keeps nothing, the frame is over.
-fn refuse_header(state: State, store: &mut [u8], fault: u8) -> Stepped
-    requires { Open state store.old }
-    ensures stepped { ByRules state (refuse_header fault (take 6 store.old)) result }
-    ensures stored { store.new
-        ≡ over (gathered (refuse_header fault (take 6 store.old)).0) store.old }
+// Byte six: whether a body follows the header.
+fn enter_body(state: State, store: &[u8]) -> Stepped
+    requires { Open state store.now }
+    ensures { ByRules state (enter (take 6 store.now)) result }
 {
     let base = state.base;
-    let event = Event::Refused(fault);
-    let kept = header::keep(store);
-    if kept == 0 {
-        return end(base, event);
-    }
-    Stepped {
-        event: event,
-        state: State {
-            base: framing::reopen(base, 1, kept, kept as u32),
-            length: 0,
-        },
-    }
-}
-
-// Byte six: whether a body follows the header.
-fn enter_body(state: State, store: &mut [u8]) -> Stepped
-    requires { Open state store.old }
-    ensures stepped { ByRules state (enter (take 6 store.old)) result }
-    ensures stored { store.new ≡ over (gathered (enter (take 6 store.old)).0) store.old }
-{
     let fault = header_fault(&store[..6]);
     if fault != 0 {
-        return refuse_header(state, store, fault);
+        return end(base, Event::Refused(fault));
     }
-    go_on(state.base, 6, joined(store[2], store[3]))
+    go_on(base, 6, joined(store[2], store[3]))
 }
 
 // An open frame below six bytes: the sixth ends the header.

@@ -143,7 +143,7 @@ takes hunting b h =
     by_eqb (Next [] (b ∷ [])) b 253 (λ e. goes_on reached [] (b ∷ []) (inside []) (rw e) (omega arith))
     (λ _. closes reached [] (b ∷ []) [] _ refl (omega arith) tt)
 takes (inside g) b h =
-    by_eqb (Next g w) b 253 (λ e. restarts reached g w (inside []) 4 (253 ∷ g) (rw e) (omega arith) (record { silent = refl; ends = refl }))
+    by_eqb (Next g w) b 253 (λ e. restarts reached g w (inside []) 4 (253 ∷ g) (rw e) (omega arith))
     (λ _. by_eqb (Next g w) b 254 (λ e. judge-takes g w h (rw e))
     (λ _. by_ltb (Next g w) (length g) size (λ l. goes_on reached g w (inside (g ++ (b ∷ []))) refl (simp length-append (omega arith)))
     (λ _. closes reached g w [] (refused_frame 5 w) refl (omega arith) tt)))

@@ -1,5 +1,4 @@
--- What is claimed of the PCS link besides the claims on every link, which follow from `lawful` (framing/proofs/Lawful.antt, Reopened.antt,
--- Wire.antt, Whole.antt).
+-- What is claimed of the PCS link besides the claims on every link, which follow from `lawful` (framing/proofs/Lawful.antt, Wire.antt, Whole.antt).
 use Prim.Native.Nat.{◌≤◌}
 use mathlib.Core.Path.{◌≡◌}
 use mathlib.Core.Bool.{true}
@@ -11,12 +10,11 @@ use Rattle.framing.proofs.Whole as any-whole
 use Rattle.framing.proofs.Places as Places
 use Rattle.pcs.specs.Frame.{Message, ok, frame}
 use Rattle.pcs.specs.Contract.{link}
-use Rattle.pcs.specs.Claims.{stream_numbers, GivesExactly, ReceiveGives, NewStart, StoresGathered, DataWithin}
+use Rattle.pcs.specs.Claims.{stream_numbers, GivesExactly, ReceiveGives, StoresGathered, DataWithin}
 use Rattle.pcs.proofs.Allowed.{sendable}
 use Rattle.pcs.proofs.Trailer.{trailing_range}
 use Rattle.pcs.proofs.Written.{frame-length}
 use Rattle.pcs.proofs.Lawful.{lawful}
-use Rattle.pcs.proofs.NewStart as starting
 use Rattle.pcs.proofs.Numbers.{given}
 use Rattle.pcs.proofs.Places.{storing, few}
 
@@ -27,10 +25,6 @@ gives_exactly = any.gives_exactly link lawful stream_numbers given
 -- and a call of `receive` 12, 1 and these
 pub receive_gives : ReceiveGives
 receive_gives = any.receive_gives link lawful stream_numbers given
-
--- what stays open after a refusal
-pub new_start : NewStart
-new_start = starting.new_start
 
 -- what a call leaves in the store, place by place
 pub stores_gathered : StoresGathered

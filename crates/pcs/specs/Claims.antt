@@ -1,7 +1,6 @@
 -- What is claimed of the PCS link besides the claims on every link.
-use Rattle.std.specs.Prelude.{ℕ, ◌≤◌, ◌≡◌, ◌≢◌, true, false, List, [], ◌∷◌, length}
+use Rattle.std.specs.Prelude.{ℕ, ◌≡◌, ◌≢◌, true, false, List, [], ◌∷◌, length}
 use Rattle.runs.specs.Runs.{Bytes}
-use Rattle.framing.specs.Claims as Claims
 use Rattle.framing.specs.Refusals as Refusals
 use Rattle.framing.specs.Places as Places
 use Rattle.checksum.specs.Claims.{DifferWithin}
@@ -17,10 +16,6 @@ GivesExactly = Refusals.GivesExactly link stream_numbers
 
 abbrev pub ReceiveGives : Type 0
 ReceiveGives = Refusals.ReceiveGives link stream_numbers
-
--- where a frame is open 253 refuses it and opens the next, and no other refusal leaves anything open
-abbrev pub NewStart : Type 0
-NewStart = Claims.NewStart link (253 ∷ []) (λ p. 1 ≤ length (link.held p))
 
 -- a byte that makes an event is not gathered; an accepted message leaves its data unpacked from place 0 on
 abbrev pub StoresGathered : Type 0

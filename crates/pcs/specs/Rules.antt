@@ -1,7 +1,7 @@
 -- The rules of the PCS receiver: what each byte does, over the gathered bytes as a list, with no store.
 use Rattle.std.specs.Prelude.{ℕ, ◌+◌, ◌-◌, ◌*◌, ◌%◌, Bool, true, false, cond, ◌&&◌, ◌||◌, not, List, [], ◌∷◌, ◌++◌, length, get_or, take, drop, eqb, leb, ltb}
 use Rattle.std.proofs.Math.Option.{Option, none, some}
-use Rattle.framing.specs.Segment.{Segment, noise, refused_frame, accepted_frame, after_end, after_refusal}
+use Rattle.framing.specs.Segment.{Segment, noise, refused_frame, accepted_frame}
 use Rattle.framing.specs.Tests.{first_of}
 use Rattle.packing.specs.Seven.{is_sent, value_of}
 use Rattle.packing.specs.Unpacked.{unpacked}
@@ -114,11 +114,11 @@ judge g wire = cond (eqb (fault_of g) 0) (unpack g wire (unpacked (packed_part g
 
 -- one more byte is gathered, or 5 where it is one too many
 abbrev pub gather : List ℕ → ℕ → List ℕ → Phase × Option (Segment Message)
-gather g b wire = cond (ltb (length g) size) (inside (g ++ (b ∷ [])), none) (after_refusal hunting 5 wire none)
+gather g b wire = cond (ltb (length g) size) (inside (g ++ (b ∷ [])), none) (hunting, some (refused_frame 5 wire))
 
--- 253 always opens a frame, with 4 where one is open; 254 ends an open frame
+-- 253 always starts, with 4 where a frame is open; 254 ends an open frame
 abbrev pub on_byte : Phase → ℕ → Phase × Option (Segment Message)
 on_byte hunting b = cond (eqb b 253) (inside [], none) (hunting, some (noise (b ∷ [])))
 on_byte (inside g) b =
-    cond (eqb b 253) (after_refusal hunting 4 (253 ∷ g) (some (inside [])))
-    (cond (eqb b 254) (after_end hunting (judge g (253 ∷ g ++ (b ∷ [])))) (gather g b (253 ∷ g ++ (b ∷ []))))
+    cond (eqb b 253) (inside [], some (refused_frame 4 (253 ∷ g)))
+    (cond (eqb b 254) (hunting, some (judge g (253 ∷ g ++ (b ∷ [])))) (gather g b (253 ∷ g ++ (b ∷ []))))

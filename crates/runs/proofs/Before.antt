@@ -30,14 +30,6 @@ module _ (low high : ℕ) where
   before-not (b ∷ bs) zero h = first-not (between low high b) (before low high bs) h
   before-not (b ∷ bs) (suc k) h = before-not bs k (later_less (between low high b) (before low high bs) k h)
 
-  -- before the end of the run the next one is a mark
-  pub before_at : (bs : List ℕ) → before low high bs < length bs → between low high (get_or bs (before low high bs) 0) ≡ true
-  unfolding before
-  before_at [] = λ h. absurd (omega arith)
-  before_at (b ∷ bs) =
-      by_test (λ (n : ℕ). n < suc (length bs) → between low high (get_or (b ∷ bs) n 0) ≡ true) (between low high b) (λ e _. e)
-      (λ _ h. before_at bs (omega arith))
-
   -- and behind them is a mark, or nothing
   pub before_rest : (bs : List ℕ) → before low high (drop (before low high bs) bs) ≡ 0
   unfolding before

@@ -3,15 +3,12 @@
 //! both sides of it, and that the input bytes stay as they were.
 
 mod orders;
-#[cfg(test)]
-mod starts;
 
 use crate::crc;
 use crate::display;
 use crate::dle::{self, Dle};
 use crate::expansion::{self, Expansion};
 use crate::gen::{self, Wire, Xorshift};
-use crate::headers::{self, Headers};
 use crate::listing::hex;
 use crate::mdu::{self, Mdu};
 use crate::pcs::{self, Pcs};
@@ -289,14 +286,6 @@ impl Call {
             _ => None,
         }
     }
-
-    /// Of an MDU run whose first event is a refused header, its sort.
-    fn header(&self, answer: Answer) -> Option<(u8, usize)> {
-        match (self.function, answer) {
-            (6, Answer::Read(8..=10)) => headers::events(&self.input).first().copied().flatten(),
-            _ => None,
-        }
-    }
 }
 
 /// Output memory: the exact room, one less, one more, none, more, anything.
@@ -425,12 +414,11 @@ fn inside(memory: &mut [u8]) -> &mut [u8] {
     &mut memory[GUARD..end]
 }
 
-/// What a comparison found: counts of each answer, by function and number, of
-/// the PCS frames written and read, without CRC and with it, and of the MDU headers refused.
+/// What a comparison found: counts of each answer, by function and number, and of
+/// the PCS frames written and read, without CRC and with it.
 pub struct Counts {
     answers: [[u64; 22]; FUNCTIONS.len()],
     sorts: [[u64; 2]; 2],
-    headers: Headers,
 }
 
 /// What a call left: the answer, the memory and the input, each with its canary.
@@ -471,7 +459,7 @@ fn difference(call: &Call, canary: &[u8], got: &Left, expected: &Left) -> String
 /// Compares `count` generated calls; the text of the first difference otherwise.
 pub fn compare(host: &dyn Host, seed: u64, count: u64) -> Result<Counts, String> {
     let mut random = Xorshift::new(seed);
-    let mut counts = Counts { answers: [[0; 22]; FUNCTIONS.len()], sorts: [[0; 2]; 2], headers: Headers::default() };
+    let mut counts = Counts { answers: [[0; 22]; FUNCTIONS.len()], sorts: [[0; 2]; 2] };
     for number in 0..count {
         // Reads have more to show than writers.
         let function = match number % 18 {
@@ -499,9 +487,6 @@ pub fn compare(host: &dyn Host, seed: u64, count: u64) -> Result<Counts, String>
         if let Some((way, crc)) = call.sort(expected.answer) {
             counts.sorts[way][crc as usize] += 1;
         }
-        if let Some(sort) = call.header(expected.answer) {
-            counts.headers.add(sort);
-        }
     }
     Ok(counts)
 }
@@ -526,13 +511,12 @@ impl Counts {
         let [written, read] = self.sorts;
         text += &format!("PCS frames written: {} plain, {} with CRC; ", written[0], written[1]);
         text += &format!("read: {} plain, {} with CRC\n", read[0], read[1]);
-        text + &self.headers.table()
+        text
     }
 
-    /// Answers that a function can give and that were never seen, and the other way round; a sort of PCS frames or of
-    /// refused MDU headers never seen.
+    /// Answers that a function can give and that were never seen, and the other way round; a sort of PCS frames never seen.
     pub fn missing(&self) -> Vec<String> {
-        let mut missing = self.headers.missing();
+        let mut missing = Vec::new();
         if self.sorts.concat().contains(&0) {
             missing.push(String::from("a sort of PCS frames was never written or never read"));
         }
@@ -559,17 +543,15 @@ mod tests {
     #[test]
     fn own_against_own_sees_every_number() {
         for seed in [0, 1, 2, 42] {
-            let counts = compare(&Own, seed, 10_000).unwrap_or_else(|text| panic!("{text}"));
+            let counts = compare(&Own, seed, 4000).unwrap_or_else(|text| panic!("{text}"));
             assert!(counts.missing().is_empty(), "{:?}", counts.missing());
         }
     }
 
-    /// One wrong answer at a time, which the comparison must find; those of refused MDU headers and of the display stand
-    /// behind the others.
+    /// One wrong answer at a time, which the comparison must find; those of the display stand behind the others.
     struct Wrong(u8);
 
-    const FIRST_OF_STARTS: u8 = 33;
-    const FIRST_OF_DISPLAY: u8 = FIRST_OF_STARTS + starts::COUNT;
+    const FIRST_OF_DISPLAY: u8 = 33;
 
     /// A frame with CRC, the byte at this place of its four check bytes put right.
     fn put_right(frame: &[u8], place: usize) -> Vec<u8> {
@@ -675,7 +657,7 @@ mod tests {
             if self.0 == 7 && frame.first() == Some(&0xFF) {
                 return Own.mdu_read(&frame[1..], store); // noise in front let through
             }
-            starts::read(self.0.wrapping_sub(FIRST_OF_STARTS), frame, store)
+            Own.mdu_read(frame, store)
         }
         fn dle_read(&self, frame: &[u8], store: &mut [u8]) -> u64 {
             let answer = Own.dle_read(frame, store);

@@ -2,7 +2,6 @@
 //! every kind of damage to them. Used by `compare`, `captures` and the tests.
 
 pub mod display;
-pub mod false_start;
 
 use crate::crc;
 use crate::escape;
@@ -516,7 +515,7 @@ fn in_noise(random: &mut Xorshift, wire: Wire) -> Vec<u8> {
     bytes
 }
 
-/// One run of bytes for a link: valid, damaged, resummed, cut, noisy, long, loose; on MDU often one with refused headers.
+/// One run of bytes for a link: valid, damaged, resummed, cut, noisy, long, loose.
 pub fn run(random: &mut Xorshift, wire: Wire) -> Vec<u8> {
     if wire == Wire::Pcs && random.once_in(4) {
         return match random.below(5) {
@@ -525,9 +524,6 @@ pub fn run(random: &mut Xorshift, wire: Wire) -> Vec<u8> {
             3 => short_with_crc(random),
             _ => near_size(random, wire),
         };
-    }
-    if wire == Wire::Mdu && random.once_in(3) {
-        return false_start::run(random);
     }
     match random.below(21) {
         0..=4 => valid(random, wire),

@@ -10,7 +10,6 @@ mod escape;
 mod expansion;
 mod gate;
 mod gen;
-mod headers;
 mod listing;
 mod mdu;
 mod packing;
@@ -71,24 +70,19 @@ fn run_generated(folder: &str, seed: u64, count: usize) -> ExitCode {
     }
 }
 
-/// Files of captures; fails if a sort of PCS frames is not among their messages, or one of refused MDU headers not in them.
+/// Files of captures; fails if a sort of PCS frames is not among their messages.
 fn run_captures(folder: &str, seed: u64, count: usize) -> ExitCode {
     match captures::captures(Path::new(folder), seed, count) {
         Err(error) => {
             eprintln!("{error}");
             ExitCode::FAILURE
         }
-        Ok(seen) => {
-            let [plain, crc] = seen.sorts;
+        Ok([plain, crc]) => {
             println!("seed {seed}, {count} captures, PCS messages: {plain} plain, {crc} with CRC");
-            println!("{}begun within another: {}", seen.headers.table(), seen.in_a_row);
-            let missing = seen.missing();
-            for line in &missing {
-                println!("{line}");
-            }
-            if missing.is_empty() {
+            if plain > 0 && crc > 0 {
                 ExitCode::SUCCESS
             } else {
+                println!("a sort of PCS frames was never seen");
                 ExitCode::FAILURE
             }
         }

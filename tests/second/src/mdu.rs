@@ -2,8 +2,6 @@
 //!
 //! E3; 01; length (two bytes, high first); address; header sum; type; data;
 //! CRC (two bytes, high first). The body is type and data.
-//!
-//! A refused header is gone up to the next E3 in it (request 7 of document 02).
 
 use crate::crc;
 use crate::stream::{self, Event, Link, State};
@@ -14,9 +12,7 @@ pub struct Mdu;
 const HUNTING: u64 = 0;
 const OPEN: u64 = 1;
 
-pub const START: u8 = 0xE3;
-/// Bytes of a header; the last of them is judged with it.
-pub const HEADER: usize = 6;
+const START: u8 = 0xE3;
 const VERSION: u8 = 0x01;
 
 #[derive(Clone, Copy, Debug, PartialEq, Eq)]
@@ -52,7 +48,7 @@ pub fn write(address: u8, body: &[u8], out: &mut [u8]) -> Result<usize, u8> {
 }
 
 /// The tests at byte six: version and address 9, header sum 8, length 10.
-pub fn judge_header(header: &[u8]) -> Result<u64, u8> {
+fn judge_header(header: &[u8]) -> Result<u64, u8> {
     if header[1] != VERSION || header[4] == 0 {
         return Err(9);
     }
@@ -64,20 +60,6 @@ pub fn judge_header(header: &[u8]) -> Result<u64, u8> {
         return Err(10);
     }
     Ok(length)
-}
-
-/// A header refused at byte six. The first E3 behind its start, if there is one, and what
-/// followed it are the open frame: they move to the front of the store, and no other place
-/// is written. The bytes before it, else all six, are the refused frame, never noise.
-fn refuse_header(state: &mut State, store: &mut [u8], number: u8) -> Event<Message> {
-    stream::hunt(state);
-    if let Some(kept) = (1..HEADER).find(|place| store[*place] == START) {
-        store.copy_within(kept..HEADER, 0);
-        state.mode = OPEN;
-        state.count = (HEADER - kept) as u64;
-        state.open = (HEADER - kept) as u32;
-    }
-    Event::Refused(number)
 }
 
 /// The test at the last byte.
@@ -124,27 +106,26 @@ impl Link for Mdu {
             hunting(state, store, byte);
             return Event::Nothing;
         }
-        // Every byte of an open frame is gathered, E3 too, and before it is judged.
+        // Every byte of an open frame is gathered, E3 too.
         store[state.count as usize] = byte;
         state.count += 1;
         state.open = state.open.wrapping_add(1);
-        if state.count < HEADER as u64 {
+        if state.count < 6 {
             state.length = 0;
             return Event::Nothing;
         }
-        if state.count == HEADER as u64 {
-            return match judge_header(&store[..HEADER]) {
+        if state.count == 6 {
+            return match judge_header(&store[..6]) {
                 Ok(length) => {
                     state.length = length;
                     Event::Nothing
                 }
-                Err(number) => refuse_header(state, store, number),
+                Err(number) => stream::end(state, Err(number)),
             };
         }
         if state.count < state.length + 8 {
             return Event::Nothing;
         }
-        // The E3s of a body start nothing, after a wrong CRC either.
         stream::end(state, judge_body(store, state.length as usize))
     }
 

@@ -3,10 +3,6 @@
 //! Numbers 1 to 18 are those of document 01's table and stand as plain numbers
 //! in the code; 11 is withdrawn by request 2 of document 02, and 21 comes with its
 //! request 5.
-//!
-//! A refused frame ends where its fault shows, or just before what opens the next one,
-//! which stays open: for 4 the new start mark, with nothing gathered; for a refused MDU
-//! header the next E3 in it and what followed, gathered (request 7). Else the link hunts.
 
 /// A receiver's state. Fresh is all zeros; any numbers may stand in it.
 /// Only MDU uses `length`.

@@ -1,9 +1,8 @@
 //! Tests over whole links: 01's examples and edges, the documents' frames, PCS with
-//! CRC, refused MDU headers, odd states, the cutting rule, whole frames, the display, records, gate exchange, listing.
+//! CRC, odd states, the cutting rule, whole frames, the display, records, gate exchange, listing.
 
 mod boards;
 mod display;
-mod false_start;
 mod frames;
 mod gate;
 mod listing;
@@ -40,11 +39,4 @@ const DISPLAY: [u8; 23] =
 /// The same with CRC, as request 2 of 02 has it.
 const DISPLAY_WITH_CRC: [u8; 26] =
     [253, 101, 250, 13, 2, 128, 12, 1, 1, 67, 76, 67, 83, 72, 49, 50, 128, 51, 52, 53, 128, 104, 124, 117, 1, 254];
-/// The frames printed in document 002.
-const DOCUMENT_002: [&[u8]; 4] = [
-    &[0xE3, 0x01, 0x00, 0x05, 0x33, 0x1C, 0xB1, 0x00, 0x04, 0x47, 0xBA, 0x98, 0x8F],
-    &[0xE3, 0x01, 0x00, 0x05, 0x0D, 0xF6, 0xB1, 0x00, 0x04, 0x47, 0xBA, 0x98, 0x8F],
-    &[0xE3, 0x01, 0x00, 0x01, 0x33, 0x18, 0x31, 0xD4, 0xC1],
-    &[0xE3, 0x01, 0x00, 0x01, 0x0D, 0xF2, 0x31, 0xD4, 0xC1],
-];
 const ACKNOWLEDGEMENT: [u8; 11] = [253, 250, 101, 6, 2, 128, 128, 1, 1, 105, 254];

@@ -116,7 +116,6 @@ mod boards;
 mod display;
 mod dle;
 mod expansion;
-mod false_start;
 mod gate;
 mod generated;
 mod link;

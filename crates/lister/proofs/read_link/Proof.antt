@@ -3,7 +3,7 @@ use lib.ListN.{length, get_or}
 use Prim.Native.Nat.{◌≤◌}
 use Rattle.listing_text.specs.Text as Text
 use Rattle.lister.specs.Feeding.{unlisted}
-use Rattle.lister.proofs.Letter.{first_fits, link_none, link-then, link_within}
+use Rattle.lister.proofs.Letter.{first_fits, link_none, link_then, link_within}
 use borrow.Author.Rules.{rules}
 use Rattle.lister.proofs.read_link.Statement.{statement}
 use Rattle.lister.proofs.read_link.Tie as tie
@@ -33,7 +33,7 @@ returns-2 c =
     let a = c.before.before.before.before.before.before.before.before.before.before.before.before.before.before.before.before.before.before.before.before.args in
     let pre = c.before.before.before.before.before.before.before.before.before.before.before.before.before.before.before.before.before.before.before.before.requires in
     let u = c.before.before.before.before.before.before.read-wire in (
-      link-then a.store.now a.piece.now a.text.now pre.0 pre.1 c.before.before.before.before.before.before.before.before.before.before.before.before.before.before.link.ensures c.before.before.before.before.before.before.before.before.before.before.before.count_of.ensures c.before.before.before.before.before.before.before.before.before.before.if1.false u.result _ _ u.ensures.0 u.ensures.1.1,
+      link_then a.store.now a.piece.now a.text.now pre.0 pre.1 c.before.before.before.before.before.before.before.before.before.before.before.before.before.before.link.ensures c.before.before.before.before.before.before.before.before.before.before.before.count_of.ensures c.before.before.before.before.before.before.before.before.before.before.if1.false u.result _ _ u.ensures.0 u.ensures.1.1,
       link_within a.store.now a.piece.now a.text.now pre.0 pre.1 c.before.before.before.before.before.before.before.before.before.before.before.before.before.before.link.ensures c.before.before.before.before.before.before.before.before.before.before.before.count_of.ensures c.before.before.before.before.before.before.before.before.before.before.if1.false u.result u.ensures.1,
     )
 

@@ -1,6 +1,6 @@
 //! Listings.
 
-use super::{ACKNOWLEDGEMENT, DOCUMENT_002};
+use super::ACKNOWLEDGEMENT;
 use crate::captures;
 use crate::dle;
 use crate::listing::listing;
@@ -9,20 +9,6 @@ use crate::listing::listing;
 fn listing_example() {
     let expected = "link M\nmessage 13 5 B1000447BA\nmessage 13 1 31\nnoise 11\nopen 0\n";
     assert_eq!(listing(&captures::example()), expected);
-}
-
-/// Request 7's example, and a false start before each frame that document 002 prints.
-#[test]
-fn listing_of_false_starts() {
-    assert_eq!(listing(&captures::false_start()), "link M\nrefused 9\nmessage 13 1 31\nnoise 1\nopen 0\n");
-    let lines = ["51 5 B1000447BA", "13 5 B1000447BA", "51 1 31", "13 1 31"];
-    for (frame, line) in DOCUMENT_002.iter().zip(lines) {
-        for starts in 0..9 {
-            let input = [&[b'M', 0xFF, 0xFF, 0xFF], &vec![0xE3; starts][..], frame, &[0xFF, 0xE3]].concat();
-            let refused = "refused 9\n".repeat(starts);
-            assert_eq!(listing(&input), format!("link M\n{refused}message {line}\nnoise 4\nopen 1\n"));
-        }
-    }
 }
 
 /// The lines don't tell a frame with CRC from one without.

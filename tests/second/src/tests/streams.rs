@@ -58,24 +58,11 @@ fn cut_streams_equal_uncut_ones() {
     cutting::<Expansion>(Wire::Expansion);
 }
 
-/// How many wire bytes stay open behind an event: for 4 the new mark, behind a refused MDU header (byte six of a frame)
-/// those from the next E3 in it on, else none.
-fn stays<M>(wire: Wire, before: State, read: &[u8], event: Event<M>) -> usize {
-    match event {
-        Event::Refused(4) if wire == Wire::Dle => 2,
-        Event::Refused(4) => 1,
-        Event::Refused(_) if wire == Wire::Mdu && before.count == 5 => {
-            (1..=5).rev().find(|length| read[read.len() - length] == 0xE3).unwrap_or(0)
-        }
-        _ => 0,
-    }
-}
-
 /// Of each byte read so far it is known what it is part of: a frame that ended,
 /// well or not, the frame that is open, or the noise.
-fn every_byte<L: Link>(wire: Wire, mark: &[u8]) {
+fn every_byte<L: Link>(wire: Wire, mark: u32) {
     let mut random = Xorshift::new(5);
-    for _ in 0..600 {
+    for _ in 0..300 {
         let stream = gen::run(&mut random, wire);
         let mut store = vec![FILL; L::SIZE];
         let mut state = State::default();
@@ -85,13 +72,11 @@ fn every_byte<L: Link>(wire: Wire, mark: &[u8]) {
             let received = stream::receive::<L>(&[*byte], state, &mut store);
             assert_eq!(received.used, 1);
             state = received.state;
-            if received.event != Event::Nothing {
-                // A frame ends where its fault shows or just before what stays open, which begins with a mark.
-                framed += before.open + 1 - state.open;
-                let read = &stream[..=index];
-                let kept = stays(wire, before, read, received.event);
-                assert_eq!((state.noise, state.open as usize), (before.noise, kept));
-                assert!(kept == 0 || read[read.len() - kept..].starts_with(mark));
+            match received.event {
+                Event::Nothing => {}
+                // The refused frame ends just before the new mark of `mark` bytes.
+                Event::Refused(4) => framed += before.open + 1 - mark,
+                _ => framed += before.open + 1,
             }
             assert_eq!(framed + state.noise + state.open, index as u32 + 1);
         }
@@ -100,10 +85,10 @@ fn every_byte<L: Link>(wire: Wire, mark: &[u8]) {
 
 #[test]
 fn every_byte_is_counted_once() {
-    every_byte::<Pcs>(Wire::Pcs, &[253]);
-    every_byte::<Mdu>(Wire::Mdu, &[0xE3]);
-    every_byte::<Dle>(Wire::Dle, &[0x10, 0x02]);
-    every_byte::<Expansion>(Wire::Expansion, &[0xFD]);
+    every_byte::<Pcs>(Wire::Pcs, 1);
+    every_byte::<Mdu>(Wire::Mdu, 1);
+    every_byte::<Dle>(Wire::Dle, 2);
+    every_byte::<Expansion>(Wire::Expansion, 1);
 }
 
 #[test]

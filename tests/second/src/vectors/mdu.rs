@@ -1,6 +1,5 @@
-//! MDU: document 002's frames, the edges, headers and check values; `false_start` has what stays of a refused header.
+//! MDU: document 002's frames, the edges, headers and check values.
 
-use super::false_start;
 use super::link::Section;
 use super::text::{given, given_run, Lines};
 use crate::captures;
@@ -86,7 +85,7 @@ fn cut(s: &mut Section) {
     s.receive::<Mdu>(&stream[16..]);
     s.receive::<Mdu>(&stream[30..]);
     s.cut::<Mdu>(stream);
-    // A header refusal takes the bytes before the next E3.
+    // A header refusal takes all six bytes, E3 among them too.
     s.cut::<Mdu>(&[0xE3, 0xE3, 0x01, 0x00, 0x01, 0x33, 0x18, 0x31, 0xE3]);
 }
 
@@ -105,7 +104,6 @@ pub fn section() -> (Lines, Lines) {
     states(&mut s);
     kept_lengths(&mut s);
     cut(&mut s);
-    false_start::lines(&mut s);
     parts(&mut s);
     (s.lines, s.whole)
 }

@@ -4,7 +4,7 @@ use crate::crc;
 use crate::dle;
 use crate::escape;
 use crate::expansion;
-use crate::gen::{self, false_start, Wire, Xorshift};
+use crate::gen::{self, Wire, Xorshift};
 use crate::mdu;
 use crate::pcs;
 use crate::stream::{self, Link, State};
@@ -90,22 +90,10 @@ fn on_the_wire(wire: Wire, bytes: &[u8]) -> Vec<u8> {
     }
 }
 
-/// An MDU header that is refused, a run behind it, and how many of its bytes are there before.
-fn header_begun(random: &mut Xorshift) -> (Vec<u8>, usize) {
-    let sort = random.pick(&false_start::SORTS);
-    let bytes = [&false_start::header(random, sort)[..], &gen::run(random, Wire::Mdu)].concat();
-    (bytes, 1 + random.below(5))
-}
-
 /// The middle of a frame that no call has gathered: its first bytes stand in the store.
 fn middle<L: Link>(random: &mut Xorshift, wire: Wire) -> (State, Vec<u8>, Vec<u8>) {
-    let (bytes, count) = if wire == Wire::Mdu && random.once_in(3) {
-        header_begun(random)
-    } else {
-        let bytes = gathered(random, wire);
-        let count = random.below(bytes.len().min(L::SIZE) + 1);
-        (bytes, count)
-    };
+    let bytes = gathered(random, wire);
+    let count = random.below(bytes.len().min(L::SIZE) + 1);
     let length = store_length(random, L::SIZE);
     let mut store = gen::contents(random, length);
     for (place, byte) in store.iter_mut().zip(&bytes[..count]) {

@@ -6,16 +6,12 @@ use std::collections::BTreeMap;
 /// Each call with the answers that it can give: refusals by their number, others by
 /// their word, the value of a check as `value`, and as `empty` where no bytes were
 /// given, what is shown of a number as `places`. A PCS message is `plain` or `crc`, and
-/// its 5 is `5-end` where an end mark gives it. An MDU header's refusal is `9-open-2` where
-/// two of its bytes stay open. All have to be seen, and no other may be: PCS's 11 is withdrawn.
+/// its 5 is `5-end` where an end mark gives it. All have to be seen, and no other may
+/// be: PCS's 11 is withdrawn.
 const ANSWERS: [(&str, &str); 29] = [
     ("crc16-from", "value empty"),
     ("pcs receive", "nothing plain crc 1 4 5 5-end 6 8 9 10 12 13"),
-    (
-        "mdu receive",
-        "nothing message 1 8 8-open-1 8-open-2 8-open-3 8-open-4 9 9-open-1 9-open-2 9-open-3 9-open-4 9-open-5 \
-         10 10-open-1 10-open-2 10-open-3 10-open-4 12",
-    ),
+    ("mdu receive", "nothing message 1 8 9 10 12"),
     ("dle receive", "nothing message 1 4 5 6 7 10 12"),
     ("expansion receive", "nothing message 1 4 5 6 7 8 9 12"),
     ("pcs part", "gives empty"),
@@ -75,10 +71,6 @@ fn answer_name(section: &str, call: &[&str], words: &[&str]) -> String {
         _ if call[0] == "crc16-from" => if call[2] == "-" { "empty" } else { "value" },
         _ if call[0] == "display-shown" => "places",
         ["used", used, "refused", "5", ..] if section == "pcs" => if ended(call, used) { "5-end" } else { "5" },
-        // The state that is told stays open, with this many gathered.
-        ["used", _, "refused", number @ ("8" | "9" | "10"), "state", "1", count, ..] if section == "mdu" => {
-            return format!("{number}-open-{count}");
-        }
         ["used", _, "message", _, _, _, _, _, _, crc, ..] if section == "pcs" => if *crc == "1" { "crc" } else { "plain" },
         ["used", _, "refused", number, ..] | ["refused", number, ..] => number,
         ["used", _, event, ..] => event,
@@ -164,21 +156,6 @@ mod tests {
         assert!(missing.contains(&String::from("dle receive can't answer 9 and did")));
         assert!(missing.contains(&String::from("dle receive never answered 4")));
         assert!(!missing.contains(&String::from("dle receive never answered nothing")));
-    }
-
-    /// A refused MDU header is told by what stays open; 12 leaves a state as it was, and is not.
-    #[test]
-    fn mdu_answers() {
-        let mut lines = Lines::default();
-        lines.add("receive E3", "used 1 refused 8 state 0 0 0 0 7 store 5");
-        lines.add("receive E3", "used 1 refused 8 state 1 1 0 1 7 store 5");
-        lines.add("receive E3", "used 1 refused 10 state 1 4 0 4 7 store 5");
-        lines.add("receive E3", "used 0 refused 12 state 1 0 0 4 7 store 5");
-        let mut tally = Tally::default();
-        tally.count("mdu", &lines);
-        for answer in ["8", "8-open-1", "10-open-4", "12"] {
-            assert_eq!(tally.seen("mdu receive", answer), 1, "{answer}");
-        }
     }
 
     /// The two sorts of PCS messages and the two places of its 5 are told apart, and a withdrawn number is not let through.

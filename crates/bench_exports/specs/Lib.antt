@@ -1,2 +1,0 @@
--- `Events`: what is heard of a whole stream.
-pub mod Events
