@@ -3,7 +3,6 @@ use Rattle.std.specs.Prelude.{◌≡◌, ℕ, ◌^◌, ◌≤◌, Bool, true, co
 use Rattle.runs.specs.Runs.{Bytes}
 use Rattle.framing.specs.Answer.{Outcome, done, refused}
 use Rattle.framing.specs.Link.{Link, Told, nothing, accepted, receives}
-use Rattle.framing.specs.Link as Told
 
 -- a refusal stays; a message stays if the run is exactly its frame; anything else is 6
 abbrev pub settle : {N : Type 0} → Bool → Told N → Outcome N

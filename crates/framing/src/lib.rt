@@ -1,5 +1,7 @@
 // What the links share: the numbers of refusals, the answers of writers, the state of a receiver and its rules. The theory of receivers and of
 // writers' calls, over any link, is in specs/ and proofs/.
+#![tactic(auto)]
+
 pub mod refusal;
 
 ghost use Rattle.std.specs.Prelude.{◌≡◌, ◌+◌, ◌%◌, ◌^◌};
@@ -10,7 +12,7 @@ ghost use Rattle.framing.specs.State.{fresh_state, known_state, after_noise, hun
 ghost use Rattle.framing.specs.Whole.{exactly};
 
 // The answer of a call that makes bytes: how many, or the number of a refusal.
-#[derive(Drop)]
+#[derive(Clone, Copy)]
 pub enum Answer {
     Done(usize),
     Refused(u8),
@@ -54,7 +56,7 @@ pub fn call_fault(known: bool, holds: bool) -> u8
 
 // What a receiver keeps between calls: the link's mode, the count of gathered bytes, the wire bytes of what is open, the noise bytes.
 // Any numbers may stand in it. The mode is as wide as the count, since a struct without padding is copied faster.
-#[derive(Drop)]
+#[derive(Clone, Copy)]
 pub struct State {
     pub mode: usize,
     pub count: usize,
@@ -63,7 +65,7 @@ pub struct State {
 }
 
 // What is reached by passing bytes of a piece without an event: the state, and the next place of the piece.
-#[derive(Drop)]
+#[derive(Clone, Copy)]
 pub struct Reached {
     pub state: State,
     pub next: usize,

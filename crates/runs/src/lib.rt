@@ -1,6 +1,8 @@
 // Runs of bytes, for every crate above: definitions in specs/, laws in proofs/, and here numbers of up to four bytes, low byte first, read from and
 // stored in slices, the bytes of a run before the first mark, and the total of a run. No function asks anything of its caller: bytes that are not
 // there are not read, and places that are not there not stored to.
+#![tactic(auto)]
+
 ghost use Rattle.std.specs.Prelude.{◌≡◌, ◌+◌, ◌-◌, ◌≤◌, min, length, take, drop, nat_le};
 ghost use Rattle.std.proofs.lemmas.List.Edits.{sets};
 ghost use Rattle.runs.specs.Runs.{between, before};

@@ -1,7 +1,6 @@
 use Rattle.std.proofs.Common.{◌≡◌, ℕ, ◌+◌, ◌-◌, ◌≤◌, Bool, true, false, leb, sym, refl, arith, le-leb, leb-true}
 use borrow.Author.Tests.{lt-leb}
-use Rattle.runs.proofs.fits.Statement.{statement}
-use Rattle.runs.proofs.fits.Tie as tie
+use Rattle.runs.proofs.fits.Goals as goal
 
 same_test : (a b : Bool) → (a ≡ true → b ≡ true) → (b ≡ true → a ≡ true) → a ≡ b
 same_test true b h k = sym (h refl)
@@ -14,13 +13,10 @@ room at size memory h =
     (λ e. le-leb (at + size) memory (omega (arith, leb-true size (memory - at) e)))
     (λ e. le-leb size (memory - at) (omega (arith, leb-true (at + size) memory e)))
 
-returns : tie.Need-returns
-returns c = let a = c.before.args in room a.at a.size a.memory c.if1.true
+pub returns-then-at-memory : goal.returns-then-at-memory
+returns-then-at-memory c = let a = c.args in room a.at a.size a.memory c.if-at-memory.true
 
-returns-2 : tie.Need-returns-2
-returns-2 c =
-    let a = c.before.args in
-    rw (lt-leb a.at a.memory c.if1.false, lt-leb (a.at + a.size) a.memory (omega arith))
-
-pub fits-spec : {M : Type 1} → statement M
-fits-spec = tie.close (tie.spec returns returns-2)
+pub returns-else-at-memory : goal.returns-else-at-memory
+returns-else-at-memory c =
+    let a = c.args in
+    rw (lt-leb a.at a.memory c.if-at-memory.false, lt-leb (a.at + a.size) a.memory (omega arith))
