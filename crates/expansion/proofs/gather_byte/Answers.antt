@@ -4,16 +4,14 @@ use Prim.Native.Nat.{◌<◌}
 use lib.ListN.{length, length-append}
 use lib.Seq.{length-take-le}
 use Rattle.runs.proofs.Run.{more-over}
-use borrow.Author.Rules.{rules}
-use Rattle.expansion.proofs.gather_byte.Statement.{statement}
-use Rattle.expansion.proofs.gather_byte.Tie as tie
+use Rattle.expansion.proofs.gather_byte.Goals as goal
 
-returns : tie.Need-returns
-returns c =
-    let s = c.before.before.before in
+pub returns-then-at-lt-SIZE : goal.returns-then-at-lt-SIZE
+returns-then-at-lt-SIZE c =
+    let s = c.before in
     let a = s.args in
     let k = length-take-le a.state.count a.store.now (omega arith) in
-    let t = lt-ltb _ _ c.before.if1.true in
+    let t = lt-ltb _ _ c.if-at-lt-SIZE.true in
     let l : a.state.count < length a.store.now = omega arith in
     λ wire. record {
       tells = simp (k, t);
@@ -21,13 +19,9 @@ returns c =
       stored = simp (k, t) (more-over a.store.now a.state.count a.byte l);
     }
 
-returns-2 : tie.Need-returns-2
-returns-2 c =
-    let a = c.before.before.before.args in
+pub returns-else-at-lt-SIZE : goal.returns-else-at-lt-SIZE
+returns-else-at-lt-SIZE c =
+    let a = c.args in
     let k = length-take-le a.state.count a.store.now (omega arith) in
-    let t = le-ltb _ _ c.before.if1.false in
+    let t = le-ltb _ _ c.if-at-lt-SIZE.false in
     λ wire. record { tells = simp (k, t); state = simp (k, t, c.close.ensures); stored = simp (k, t) }
-
-pub gather-byte-spec : {M : Type 1} → statement M
-gather-byte-spec =
-    tie.close (tie.spec (λ c. search rules) (λ c. search rules) (λ c κs. search rules) (λ c κs. search rules) (λ c. search rules) returns returns-2)
