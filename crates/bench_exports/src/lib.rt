@@ -1,4 +1,6 @@
 // The check values and the packing, exported for the benchmark alone: of these the C interface of linebox has the 16-bit check only.
+#![tactic(auto)]
+
 ghost use Rattle.std.specs.Prelude.{◌≡◌};
 ghost use Rattle.framing.specs.Answer.{count_of, stored_at};
 ghost use Rattle.packing.specs.Packed.{packed};

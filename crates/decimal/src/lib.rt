@@ -1,4 +1,6 @@
 // Numbers in decimal: in ASCII, without leading zeros.
+#![tactic(auto)]
+
 ghost use Rattle.std.specs.Prelude.{◌≡◌, ◌+◌, ◌≤◌, length};
 ghost use Rattle.std.proofs.lemmas.List.Edits.{sets};
 ghost use Rattle.framing.specs.Answer.{outcome_of, stored_at};

@@ -1,4 +1,6 @@
 // Hiding bytes between the marks of a frame: DLE doubling and the expansion escape.
+#![tactic(auto)]
+
 ghost use Rattle.std.specs.Prelude.{◌≡◌, ◌+◌, ◌-◌, ◌≤◌, min, leb, length, take, drop};
 ghost use Rattle.std.proofs.lemmas.List.Edits.{sets};
 ghost use Rattle.framing.specs.Answer.{outcome_of, stored_at};
@@ -11,7 +13,7 @@ ghost use Rattle.escape.specs.Form.{hides, run_of, uncodes, pair_at, unhide_by};
 use framing::{Answer, refusal};
 
 // What a wire byte means between the marks: it completes this byte, it is half of an escape, it is or completes a mark, or it is wrongly coded.
-#[derive(Drop)]
+#[derive(Clone, Copy)]
 pub enum Meaning {
     Byte(u8),
     Waits,
@@ -68,7 +70,7 @@ pub fn expansion_after(byte: u8) -> Meaning
 }
 
 // Both codes in one form: the bytes from `first` to `escape` are hidden, each as `escape` and then `top` less the byte.
-#[derive(Drop)]
+#[derive(Clone, Copy)]
 struct Escapes {
     first: u8,
     escape: u8,
@@ -172,7 +174,7 @@ fn hide_by(escapes: Escapes, bytes: &[u8], out: &mut [u8], at: usize) -> Answer
 }
 
 // What is read of a run of wire bytes: how many bytes it stands for, and how many wire bytes they take.
-#[derive(Drop)]
+#[derive(Clone, Copy)]
 pub struct Unhidden {
     pub count: usize,
     pub used: usize,

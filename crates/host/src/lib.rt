@@ -1,4 +1,6 @@
-// The calls of a host that is written in C: numbers and byte slices only. include/linebox.h is their header.
+// The calls of a host that is written in C: numbers and byte slices only. include/linebox.h is their header, and host_c exports them.
+#![tactic(auto)]
+
 ghost use Rattle.std.specs.Prelude.{◌≡◌, cond, [], ◌∷◌, ◌*◌, ◌^◌};
 ghost use Rattle.checksum.specs.Crc.{crc16_from};
 ghost use Rattle.framing.specs.Answer.{outcome_of};
@@ -49,8 +51,7 @@ fn int32_of(answer: Answer) -> i32
 }
 
 // Writes a PCS message.
-#[unsafe(no_mangle)]
-pub extern "C" fn linebox_pcs_write(
+pub fn linebox_pcs_write(
     receiver: u8,
     sender: u8,
     kind: u8,
@@ -83,32 +84,28 @@ pub extern "C" fn linebox_pcs_write(
 }
 
 // Writes an MDU message.
-#[unsafe(no_mangle)]
-pub extern "C" fn linebox_mdu_write(address: u8, body: &[u8], out: &mut [u8]) -> i32
+pub fn linebox_mdu_write(address: u8, body: &[u8], out: &mut [u8]) -> i32
     ensures { (result, out.new) ≡ writes_to Mdu.link (record { address = address; body = body.now }) out.old }
 {
     int32_of(mdu::write(address, body, out))
 }
 
 // Writes a DLE message with data.
-#[unsafe(no_mangle)]
-pub extern "C" fn linebox_dle_write(sequence: u8, node: u8, data: &[u8], out: &mut [u8]) -> i32
+pub fn linebox_dle_write(sequence: u8, node: u8, data: &[u8], out: &mut [u8]) -> i32
     ensures { (result, out.new) ≡ writes_to Dle.link (content sequence node «data».now) out.old }
 {
     int32_of(dle::write(sequence, node, data, out))
 }
 
 // Writes a DLE error message.
-#[unsafe(no_mangle)]
-pub extern "C" fn linebox_dle_write_error(sequence: u8, node: u8, error: u8, out: &mut [u8]) -> i32
+pub fn linebox_dle_write_error(sequence: u8, node: u8, error: u8, out: &mut [u8]) -> i32
     ensures { (result, out.new) ≡ writes_to Dle.link (errorMessage sequence node error) out.old }
 {
     int32_of(dle::write_error(sequence, node, error, out))
 }
 
 // Writes an expansion message; its type is named `kind`, since `type` is a word of the language.
-#[unsafe(no_mangle)]
-pub extern "C" fn linebox_expansion_write(
+pub fn linebox_expansion_write(
     id: u8,
     kind: u8,
     repeat: u8,
@@ -204,16 +201,14 @@ fn encode_expansion(event: expansion::Event, exact: bool) -> u64
 }
 
 // Reads one whole PCS frame.
-#[unsafe(no_mangle)]
-pub extern "C" fn linebox_pcs_read(frame: &[u8], store: &mut [u8]) -> u64
+pub fn linebox_pcs_read(frame: &[u8], store: &mut [u8]) -> u64
     ensures { (result, store.new) ≡ reads Pcs.link pcs_code frame.now store.old }
 {
     encode_pcs(pcs::read(frame, store))
 }
 
 // Reads one whole MDU frame.
-#[unsafe(no_mangle)]
-pub extern "C" fn linebox_mdu_read(frame: &[u8], store: &mut [u8]) -> u64
+pub fn linebox_mdu_read(frame: &[u8], store: &mut [u8]) -> u64
     ensures { (result, store.new) ≡ reads Mdu.link mdu_code frame.now store.old }
 {
     let got = mdu::receive(mdu::fresh(), store, frame);
@@ -225,8 +220,7 @@ pub extern "C" fn linebox_mdu_read(frame: &[u8], store: &mut [u8]) -> u64
 }
 
 // Reads one whole DLE frame.
-#[unsafe(no_mangle)]
-pub extern "C" fn linebox_dle_read(frame: &[u8], store: &mut [u8]) -> u64
+pub fn linebox_dle_read(frame: &[u8], store: &mut [u8]) -> u64
     ensures { (result, store.new) ≡ reads Dle.link dle_code frame.now store.old }
 {
     let got = dle::receive(framing::fresh(), store, frame);
@@ -238,8 +232,7 @@ pub extern "C" fn linebox_dle_read(frame: &[u8], store: &mut [u8]) -> u64
 }
 
 // Reads one whole expansion frame.
-#[unsafe(no_mangle)]
-pub extern "C" fn linebox_expansion_read(frame: &[u8], store: &mut [u8]) -> u64
+pub fn linebox_expansion_read(frame: &[u8], store: &mut [u8]) -> u64
     ensures { (result, store.new) ≡ reads Expansion.link expansion_code frame.now store.old }
 {
     let got = expansion::receive(framing::fresh(), store, frame);
@@ -251,16 +244,14 @@ pub extern "C" fn linebox_expansion_read(frame: &[u8], store: &mut [u8]) -> u64
 }
 
 // Carries the 16-bit check value on over a block.
-#[unsafe(no_mangle)]
-pub extern "C" fn linebox_crc16(start: u16, bytes: &[u8]) -> u16
+pub fn linebox_crc16(start: u16, bytes: &[u8]) -> u16
     ensures { result ≡ crc16_from start bytes.now }
 {
     checksum::crc16(start, bytes)
 }
 
 // Writes an order for a display.
-#[unsafe(no_mangle)]
-pub extern "C" fn linebox_display_write(
+pub fn linebox_display_write(
     value: u32,
     receiver: u8,
     sender: u8,
@@ -292,16 +283,14 @@ fn encode_order(reading: Reading) -> u64
 }
 
 // Reads one whole frame of the display's profile.
-#[unsafe(no_mangle)]
-pub extern "C" fn linebox_display_read(frame: &[u8], store: &mut [u8]) -> u64
+pub fn linebox_display_read(frame: &[u8], store: &mut [u8]) -> u64
     ensures { (result, store.new) ≡ order_read frame.now store.old }
 {
     encode_order(display::read(frame, store))
 }
 
 // The places that show a value, as one number.
-#[unsafe(no_mangle)]
-pub extern "C" fn linebox_display_shown(value: u32) -> u32
+pub fn linebox_display_shown(value: u32) -> u32
     ensures { result ≡ places_code value }
 {
     runs::number_at(&display::shown(value), 0, 3)

@@ -1,7 +1,11 @@
 -- The words of a line, and what they stand for.
 use Rattle.std.specs.Prelude.{ℕ, zero, suc, ◌+◌, ◌*◌, ◌-◌, ◌%◌, min, cond, ◌&&◌, List, [], ◌∷◌, length, take, drop, get_or, eqb, leb}
-use Rattle.bytes.specs.Bytes.{index_of}
+use Rattle.runs.specs.Runs.{before}
 use Rattle.vector_text.specs.Laid.{run_byte, same_byte, laid}
+
+-- how many bytes lie before the first b; all of them where there is none
+abbrev pub index_of : ℕ → List ℕ → ℕ
+index_of b bytes = before b b bytes
 
 -- a line from its word k on, counted from 0; nothing where there is no such word
 unfoldable pub words_from : ℕ → List ℕ → List ℕ
@@ -46,7 +50,7 @@ unhexed (a ∷ b ∷ bs) = (hex_of a * 16 + hex_of b) ∷ unhexed bs
 abbrev pub fitted : ℕ → List ℕ → List ℕ
 fitted room bytes = cond (leb (length bytes) room) bytes []
 
--- the bytes that a word stands for, by its first letter: of `frame` the last frame, of `runN` and `same_n` so many bytes as far as there
+-- the bytes that a word stands for, by its first letter: of `frame` the last frame, of `runN` and `sameN` so many bytes as far as there
 -- is room, of any other word those in hex
 unfoldable pub given_by : List ℕ → List ℕ → ℕ → List ℕ
 given_by word frame room =

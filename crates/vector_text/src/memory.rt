@@ -5,7 +5,7 @@ ghost use Rattle.vector_text.specs.Laid.{byte_of, laid};
 ghost use Rattle.vector_text.specs.Words.{fitted};
 
 // What is laid into memory: byte k is 7k + 3, or 5, or k modulo 251.
-#[derive(Drop)]
+#[derive(Clone, Copy)]
 pub enum Content {
     Run,
     Same,
@@ -63,7 +63,8 @@ pub fn copy(source: &[u8], out: &mut [u8]) -> usize
     ensures { PutAtStart (fitted (length out.old) source.now) out.old out.new result }
 {
     if source.len() <= out.len() {
-        bytes::copy(source, out)
+        out[..source.len()].copy_from_slice(source);
+        source.len()
     } else {
         0
     }

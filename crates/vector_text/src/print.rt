@@ -1,55 +1,55 @@
-// What is printed of an answer: words, each behind a space. No contract can say what is written; what is lent stays as it came.
+// What is printed of an answer: words, each behind a space. No contract can say what is written; what is lent stays as it came. A write that fails ends
+// the call with its error, and what came before it is written.
 ghost use Rattle.std.specs.Prelude.{◌≡◌, ◌<◌};
 
 use crate::memory;
 use framing::Answer;
-use libc::STDOUT_FILENO;
+use std::io;
 
 // Bytes as they are.
-pub fn text(bytes: &[u8])
+pub fn text(rt: &impl Print, bytes: &[u8]) -> io::Result<()>
     ensures { bytes.now ≡ bytes.now }
 {
-    io::write_all(STDOUT_FILENO, bytes);
+    rt.write_all(bytes)
 }
 
 // A word behind a space.
-pub fn word(name: &[u8])
+pub fn word(rt: &impl Print, name: &[u8]) -> io::Result<()>
     ensures { name.now ≡ name.now }
 {
-    text(b" ");
-    text(name);
+    text(rt, b" ")?;
+    text(rt, name)
 }
 
 // A number, and what stands before it.
-pub fn number(before: &[u8], value: u64)
+pub fn number(rt: &impl Print, before: &[u8], value: u64) -> io::Result<()>
     ensures { before.now ≡ before.now }
 {
-    text(before);
-    io::print_decimal(STDOUT_FILENO, value);
+    text(rt, before)?;
+    rt.print(value)
 }
 
-fn next(value: u64) {
-    number(b" ", value);
+fn next(rt: &impl Print, value: u64) -> io::Result<()> {
+    number(rt, b" ", value)
 }
 
 // A name and one-byte numbers.
-pub fn numbers(name: &[u8], values: &[u8])
+pub fn numbers(rt: &impl Print, name: &[u8], values: &[u8]) -> io::Result<()>
     ensures { (name.now ≡ name.now) × (values.now ≡ values.now) }
 {
-    word(name);
-    let mut k = 0;
-    while k < values.len() {
-        next(memory::wide(values[k]));
-        k += 1;
+    word(rt, name)?;
+    for value in values {
+        next(rt, memory::wide(*value))?;
     }
+    Ok(())
 }
 
 // A name and a number.
-pub fn named(name: &[u8], value: u64)
+pub fn named(rt: &impl Print, name: &[u8], value: u64) -> io::Result<()>
     ensures { name.now ≡ name.now }
 {
-    word(name);
-    next(value);
+    word(rt, name)?;
+    next(rt, value)
 }
 
 fn digit(value: u8) -> u8
@@ -58,55 +58,54 @@ fn digit(value: u8) -> u8
     if value < 10 { value + 48 } else { value + 55 }
 }
 
-fn hex_byte(byte: u8) {
+fn hex_byte(rt: &impl Print, byte: u8) -> io::Result<()> {
     let pair = [digit(byte / 16), digit(byte % 16)];
-    text(&pair);
+    text(rt, &pair)
 }
 
 // Bytes in upper-case hex, behind a space.
-pub fn hex(bytes: &[u8])
+pub fn hex(rt: &impl Print, bytes: &[u8]) -> io::Result<()>
     ensures { bytes.now ≡ bytes.now }
 {
-    text(b" ");
-    let mut k = 0;
-    while k < bytes.len() {
-        hex_byte(bytes[k]);
-        k += 1;
+    text(rt, b" ")?;
+    for byte in bytes {
+        hex_byte(rt, *byte)?;
     }
+    Ok(())
 }
 
 // Bytes of an answer: `-` for none, `long` for more than 64.
-pub fn bytes(bytes: &[u8])
+pub fn bytes(rt: &impl Print, bytes: &[u8]) -> io::Result<()>
     ensures { bytes.now ≡ bytes.now }
 {
     if bytes.len() == 0 {
-        word(b"-");
+        word(rt, b"-")
     } else if 64 < bytes.len() {
-        word(b"long");
+        word(rt, b"long")
     } else {
-        hex(bytes);
+        hex(rt, bytes)
     }
 }
 
 // A name, and the number that the bytes are compared by.
-pub fn mix(name: &[u8], bytes: &[u8])
+pub fn mix(rt: &impl Print, name: &[u8], bytes: &[u8]) -> io::Result<()>
     ensures { (name.now ≡ name.now) × (bytes.now ≡ bytes.now) }
 {
-    named(name, memory::mix(bytes));
+    named(rt, name, memory::mix(bytes))
 }
 
 // What a writer answered, the bytes under this name, and the memory lent.
-pub fn written(answer: Answer, name: &[u8], out: &[u8])
+pub fn written(rt: &impl Print, answer: Answer, name: &[u8], out: &[u8]) -> io::Result<()>
     ensures { (name.now ≡ name.now) × (out.now ≡ out.now) }
 {
     match answer {
         Answer::Done(count) => {
             let n = memory::within(count, out);
-            named(b"length", count as u64);
-            word(name);
-            bytes(&out[..n]);
+            named(rt, b"length", count as u64)?;
+            word(rt, name)?;
+            bytes(rt, &out[..n])?;
         }
-        Answer::Refused(fault) => named(b"refused", memory::wide(fault)),
+        Answer::Refused(fault) => named(rt, b"refused", memory::wide(fault))?,
     }
-    mix(b"memory", out);
+    mix(rt, b"memory", out)
 }

@@ -1,11 +1,22 @@
 // The words of a line, counted from 0. A word that is not there is empty: it stands for 0 and for no bytes.
-ghost use Rattle.std.specs.Prelude.{◌≡◌, true, ◌↔◌, ◌≤◌, ◌%◌, ◌^◌, min, length, take, drop};
+ghost use Rattle.std.specs.Prelude.{◌≡◌, true, ◌↔◌, ◌≤◌, ◌+◌, ◌%◌, ◌^◌, min, length, take, drop};
 ghost use Rattle.vector_text.specs.Counted.{PutAtStart};
 ghost use Rattle.vector_text.specs.Laid.{byte_of, laid};
-ghost use Rattle.vector_text.specs.Words.{words_from, word_of, first_byte, with_digit, parsed_decimal, number_of, hex_of, unhexed, given_by, example};
+ghost use Rattle.vector_text.specs.Words.{index_of, words_from, word_of, first_byte, with_digit, parsed_decimal, number_of, hex_of, unhexed, given_by, example};
 
 use crate::memory;
 use crate::memory::Content;
+
+// The first place of such a byte from a place on; the length where there is none.
+pub fn find(bytes: &[u8], from: usize, byte: u8) -> usize
+    ensures place { from ≤ length bytes.now → result ≡ from + index_of byte (drop from bytes.now) }
+    ensures within { result ≤ length bytes.now }
+{
+    if bytes.len() <= from {
+        return bytes.len();
+    }
+    from + runs::count_before(byte, byte, &bytes[from..])
+}
 
 // The place at which word k begins.
 fn start(line: &[u8], k: usize) -> usize
@@ -14,7 +25,7 @@ fn start(line: &[u8], k: usize) -> usize
     let mut at = 0;
     let mut left = k;
     while 0 < left {
-        let end = bytes::scan::find(line, at, line.len(), b' ');
+        let end = find(line, at, b' ');
         if end == line.len() {
             return end;
         }
@@ -28,7 +39,7 @@ fn word(line: &[u8], k: usize) -> &[u8]
     ensures { result.now ≡ word_of k line.now }
 {
     let from = start(line, k);
-    let to = bytes::scan::find(line, from, line.len(), b' ');
+    let to = find(line, from, b' ');
     &line[from..to]
 }
 
@@ -36,7 +47,7 @@ fn word(line: &[u8], k: usize) -> &[u8]
 pub fn is(line: &[u8], k: usize, name: &[u8]) -> bool
     ensures { (result ≡ true) ↔ (word_of k line.now ≡ name.now) }
 {
-    check::same(word(line, k), name)
+    word(line, k) == name
 }
 
 // A line without the words `example N` at its front.
