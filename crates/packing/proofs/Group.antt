@@ -12,6 +12,10 @@ use Rattle.packing.specs.Unpacked.{joined, unpacked_group, all_sent, unused_clea
 use Rattle.packing.proofs.Seven.{sent_value, value_sent, sent_is, all_sent_append}
 use Rattle.packing.proofs.Tops.{low_sent, tops_joined, joined_tops, length-joined, tops_placed, tops_back}
 
+-- what goes out for the bytes l of the group g and behind them
+abbrev pub still : List ℕ → List ℕ → List ℕ
+still g l = map low_sent l ++ (sent (tops_of g) ∷ [])
+
 pub length_group : (g : List ℕ) → length (packed_group g) ≡ suc (length g)
 unfolding packed_group
 length_group g = simp (length-append, length-map) (omega arith)

@@ -2,6 +2,10 @@
 use Rattle.std.proofs.Common.{◌≡◌, ℕ, ◌-◌, min, List, length, take, drop, sym, ap, ◌∙◌, arith, length-drop, drop_of_length-le, take_all}
 use native.Mathlib.Decide.{dec_le}
 
+-- count bytes from a place on
+abbrev pub part : List ℕ → ℕ → ℕ → List ℕ
+part d from count = take count (drop from d)
+
 module _ {A : Type 0} where
   take_min : (l : List A) (n m : ℕ) → m ≡ min n (length l) → take m l ≡ take n l
   take_min l n m e =

@@ -53,7 +53,7 @@ joined_tops t (b ∷ g) h =
     let c : ℕ = 2 * t + b / 128 in
     let top : b < 256 = h 0 in
     let low : b % 128 < 128 = mod-lt b (lit< tt) in
-    rw (length-map g, tops_high c g (λ i. h (suc i)), sent_value low)
+    rw (length-map g low_sent, tops_high c g (λ i. h (suc i)), sent_value low)
     (ap₂ ◌∷◌ (omega arith) (joined_tops c g (λ i. h (suc i))))
 
 pub length-joined : (t : ℕ) (g : List ℕ) → length (joined t g) ≡ length g
