@@ -39,7 +39,7 @@ module _ (h p : ℕ) (h8 : 8 ≤ suc h) (top : 2 ^ h ≤ p) (fits : p < 2 ^ suc 
   pub run_lt : {c : ℕ} (u : List ℕ) → c < 2 ^ suc h → Bytes u → run p c u < 2 ^ suc h
   unfolding run
   run_lt [] hc hu = hc
-  run_lt (b ∷ u) hc hu = run_lt u (step_lt hc (hu 0)) (λ i. hu (suc i))
+  run_lt {c = c} (b ∷ u) hc hu = run_lt {c = byte_step p c b} u (step_lt hc (hu 0)) (λ i. hu (suc i))
 
   -- registers that agree from place k up after a byte each had the same lowest eight bits, with the byte, and agreed from k + 8 up
   step_back : (k c d a b : ℕ) → k + 8 ≤ suc h → c < 2 ^ suc h → d < 2 ^ suc h → a < 256 → b < 256

@@ -1,4 +1,6 @@
 // The check values of the links: the CRC of MDU and PCS from sixteen constants, that of the expansion link by tables, and the sum of PCS.
+#![tactic(auto)]
+
 mod braid_table;
 mod table;
 
@@ -188,7 +190,7 @@ fn shift192(table: &[u32; 1024], c: u32) -> u32
 }
 
 // Six registers side by side, each of which takes every sixth word; they stand for the register after the bytes before the next place.
-#[derive(Drop)]
+#[derive(Clone, Copy)]
 struct Braid {
     a: u32,
     b: u32,
