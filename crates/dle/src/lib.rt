@@ -1,4 +1,6 @@
 // The DLE link of gas meters: writer and receiver.
+#![tactic(auto)]
+
 ghost use Rattle.std.specs.Prelude.{◌≡◌, List, [], ◌∷◌, ◌++◌, ℕ, ◌+◌, ◌≤◌, leb, length, take};
 ghost use Rattle.std.proofs.Math.Option.{some};
 ghost use Rattle.std.proofs.lemmas.List.Edits.{sets};
@@ -22,7 +24,7 @@ const SIZE: usize = 258;
 
 // An accepted message: length 0 marks an error message with its error byte; else so much data lies in the store from place 3.
 // Sequence and node do not stand side by side: they would be loaded together where they were stored apart, which takes longer.
-#[derive(Drop)]
+#[derive(Clone, Copy)]
 pub struct Message {
     pub sequence: u8,
     pub length: u8,
@@ -31,7 +33,7 @@ pub struct Message {
 }
 
 // What a call tells: nothing, a message, or the number of a refusal.
-#[derive(Drop)]
+#[derive(Clone, Copy)]
 pub enum Event {
     Nothing,
     Accepted(Message),
@@ -39,7 +41,7 @@ pub enum Event {
 }
 
 // What a call answers: what it tells, how many bytes of the piece it used, and the state for the next call.
-#[derive(Drop)]
+#[derive(Clone, Copy)]
 pub struct Received {
     pub event: Event,
     pub used: usize,
@@ -47,7 +49,7 @@ pub struct Received {
 }
 
 // What a byte makes: an event or none, and the state after it.
-#[derive(Drop)]
+#[derive(Clone, Copy)]
 struct Stepped {
     event: Event,
     state: State,

@@ -1,4 +1,6 @@
 // The MDU link of lane signs.
+#![tactic(auto)]
+
 mod header;
 mod receiver;
 mod writer;
@@ -16,21 +18,21 @@ use framing::Answer;
 const SIZE: usize = 1033;
 
 // What the receiver keeps between calls: what every link's does, and from byte six of a frame on its stated length.
-#[derive(Drop)]
+#[derive(Clone, Copy)]
 pub struct State {
     pub base: framing::State,
     pub length: usize,
 }
 
 // An accepted message: its address, and the length of its body, which lies in the store from place 6.
-#[derive(Drop)]
+#[derive(Clone, Copy)]
 pub struct Message {
     pub address: u8,
     pub length: usize,
 }
 
 // What a call tells: nothing, a message, or the number of a refusal.
-#[derive(Drop)]
+#[derive(Clone, Copy)]
 pub enum Event {
     Nothing,
     Accepted(Message),
@@ -38,7 +40,7 @@ pub enum Event {
 }
 
 // What a call answers: what it tells, how many bytes of the piece it used, and the state for the next call.
-#[derive(Drop)]
+#[derive(Clone, Copy)]
 pub struct Received {
     pub event: Event,
     pub used: usize,

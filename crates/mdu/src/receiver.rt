@@ -13,14 +13,14 @@ use super::{Event, Message, Received, SIZE, State, header, writer};
 use runs::least;
 
 // What a byte makes: an event or none, and the state after it.
-#[derive(Drop)]
+#[derive(Clone, Copy)]
 struct Stepped {
     event: Event,
     state: State,
 }
 
 // What is reached by passing bytes: the state, and the next place of the piece.
-#[derive(Drop)]
+#[derive(Clone, Copy)]
 struct Reached {
     state: State,
     next: usize,

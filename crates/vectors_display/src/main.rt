@@ -1,52 +1,53 @@
 // Makes the calls on orders and on a display that standard input names, one a line, and prints each line again with what the call answered.
 // Both standard input and what is to be printed come from the second implementation, whose src/vectors.rs says how lines are written.
+#![tactic(auto)]
+
 mod end;
 mod orders;
 
 use display::Display;
-use vector_text::{memory, print};
+use std::io;
+use vector_text::{input, memory, print, words};
 
 // What is kept from line to line besides the last frame: its length, and the display.
-#[derive(Drop)]
+#[derive(Clone, Copy)]
 struct Kept {
     frame: usize,
     end: Display,
 }
 
 // One line, without its end.
-fn run_line(line: &[u8], kept: Kept, frame: &mut [u8]) -> Kept {
-    print::text(line);
-    let written = orders::run_write(line, frame, kept.frame);
+fn run_line(rt: &impl Print, line: &[u8], kept: Kept, frame: &mut [u8]) -> io::Result<Kept> {
+    print::text(rt, line)?;
+    let written = orders::run_write(rt, line, frame, kept.frame)?;
     let last = memory::within(written, frame);
-    orders::run(line, &frame[..last]);
-    let end = end::run(line, kept.end, &frame[..last]);
-    print::text(b"\n");
-    Kept {
-        frame: last,
-        end: end,
-    }
+    orders::run(rt, line, &frame[..last])?;
+    let end = end::run(rt, line, kept.end, &frame[..last])?;
+    print::text(rt, b"\n")?;
+    Ok(Kept { frame: last, end })
 }
 
 // Before a line names another, the display has address 0.
-fn run_lines(text: &[u8], frame: &mut [u8]) {
+fn run_lines(rt: &impl Print, text: &[u8], frame: &mut [u8]) -> io::Result<()> {
     let mut kept = Kept {
         frame: 0,
         end: display::fresh(0),
     };
     let mut at = 0;
     while at < text.len() {
-        let end = bytes::scan::find(text, at, text.len(), b'\n');
-        kept = run_line(&text[at..end], kept, frame);
+        let end = words::find(text, at, b'\n');
+        kept = run_line(rt, &text[at..end], kept, frame)?;
         if end == text.len() {
-            return;
+            return Ok(());
         }
         at = end + 1;
     }
+    Ok(())
 }
 
-fn main() {
-    let mut text = io::large_buffer();
-    let mut frame = io::buffer();
-    let length = io::read_full(libc::STDIN_FILENO, &mut text);
-    run_lines(&text[..length], &mut frame);
+fn main(rt: HostRuntime) -> io::Result<()> {
+    let mut text = [0u8; 65536];
+    let mut frame = [0u8; 4096];
+    let length = input::read_full(&mut rt.stdin(), &mut text)?;
+    run_lines(&rt, &text[..length], &mut frame)
 }

@@ -1,6 +1,7 @@
 // Lines of orders that are written and read, and of a value's places. A line that asks for more memory than there is is answered by nothing.
 use display::{Order, Reading};
 use framing::Answer;
+use std::io;
 use vector_text::memory::Content;
 use vector_text::{memory, print, words};
 
@@ -26,68 +27,87 @@ fn write(line: &[u8], out: &mut [u8]) -> Answer {
     )
 }
 
-fn written(line: &[u8], out: &mut [u8], frame: &mut [u8], last: usize) -> usize {
+fn written(
+    rt: &impl Print,
+    line: &[u8],
+    out: &mut [u8],
+    frame: &mut [u8],
+    last: usize,
+) -> io::Result<usize> {
     let answer = write(line, out);
-    print::written(answer, b"frame", out);
-    keep(answer, out, frame, last)
+    print::written(rt, answer, b"frame", out)?;
+    Ok(keep(answer, out, frame, last))
 }
 
-fn write_with(line: &[u8], asked: usize, frame: &mut [u8], last: usize) -> usize {
-    let mut out = io::buffer();
+fn write_with(
+    rt: &impl Print,
+    line: &[u8],
+    asked: usize,
+    frame: &mut [u8],
+    last: usize,
+) -> io::Result<usize> {
+    let mut out = [0u8; 4096];
     let room = memory::within(asked, &out);
     if room < asked {
-        return last;
+        return Ok(last);
     }
-    written(line, &mut out[..room], frame, last)
+    written(rt, line, &mut out[..room], frame, last)
 }
 
 // The length of the last frame, after a line that may write one.
-pub(crate) fn run_write(line: &[u8], frame: &mut [u8], last: usize) -> usize {
+pub(crate) fn run_write(
+    rt: &impl Print,
+    line: &[u8],
+    frame: &mut [u8],
+    last: usize,
+) -> io::Result<usize> {
     if words::is(line, 0, b"display-write") {
-        return write_with(line, words::size(line, 6), frame, last);
+        return write_with(rt, line, words::size(line, 6), frame, last);
     }
-    last
+    Ok(last)
 }
 
-fn show_order(order: Order) {
-    print::numbers(b"order", &[order.receiver, order.sender, order.number]);
-    print::number(b" ", order.value as u64);
+fn show_order(rt: &impl Print, order: Order) -> io::Result<()> {
+    print::numbers(rt, b"order", &[order.receiver, order.sender, order.number])?;
+    print::number(rt, b" ", order.value as u64)
 }
 
-fn show_reading(reading: Reading) {
+fn show_reading(rt: &impl Print, reading: Reading) -> io::Result<()> {
     match reading {
-        Reading::Accepted(order) => show_order(order),
-        Reading::Refused(fault) => print::named(b"refused", fault as u64),
+        Reading::Accepted(order) => show_order(rt, order),
+        Reading::Refused(fault) => print::named(rt, b"refused", fault as u64),
     }
 }
 
-fn read(bytes: &[u8], store: &mut [u8]) {
+fn read(rt: &impl Print, bytes: &[u8], store: &mut [u8]) -> io::Result<()> {
     memory::fill(Content::Lent, store);
-    show_reading(display::read(bytes, store));
-    print::mix(b"store", store);
+    show_reading(rt, display::read(bytes, store))?;
+    print::mix(rt, b"store", store)
 }
 
-fn run_read(line: &[u8], frame: &[u8]) {
-    let mut space = io::buffer();
-    let mut store = io::buffer();
+fn run_read(rt: &impl Print, line: &[u8], frame: &[u8]) -> io::Result<()> {
+    let mut space = [0u8; 4096];
+    let mut store = [0u8; 4096];
     let n = words::bytes(line, 1, frame, &mut space);
     let asked = words::size(line, 3);
     let room = memory::within(asked, &store);
     if asked <= room {
-        read(&space[..n], &mut store[..room]);
+        read(rt, &space[..n], &mut store[..room])?;
     }
+    Ok(())
 }
 
-fn run_shown(line: &[u8]) {
+fn run_shown(rt: &impl Print, line: &[u8]) -> io::Result<()> {
     let places = display::shown(words::number32(line, 1));
-    print::bytes(&places);
+    print::bytes(rt, &places)
 }
 
-pub(crate) fn run(line: &[u8], frame: &[u8]) {
+pub(crate) fn run(rt: &impl Print, line: &[u8], frame: &[u8]) -> io::Result<()> {
     if words::is(line, 0, b"display-read") {
-        run_read(line, frame);
+        run_read(rt, line, frame)?;
     }
     if words::is(line, 0, b"display-shown") {
-        run_shown(line);
+        run_shown(rt, line)?;
     }
+    Ok(())
 }

@@ -1,30 +1,29 @@
 // Lines of the asking end.
 use gate::Asked;
+use std::io;
 use vector_text::{print, words};
 
-fn show_asked(asked: Asked) {
+fn show_asked(rt: &impl Print, asked: Asked) -> io::Result<()> {
     match asked {
-        Asked::Send(id, repeat) => print::numbers(b"send", &[id, repeat]),
-        Asked::Done => print::word(b"done"),
-        Asked::GaveUp => print::word(b"given-up"),
-        Asked::Nothing => print::word(b"nothing"),
-        Asked::Refused(fault) => print::named(b"refused", fault as u64),
+        Asked::Send(id, repeat) => print::numbers(rt, b"send", &[id, repeat]),
+        Asked::Done => print::word(rt, b"done"),
+        Asked::GaveUp => print::word(rt, b"given-up"),
+        Asked::Nothing => print::word(rt, b"nothing"),
+        Asked::Refused(fault) => print::named(rt, b"refused", fault as u64),
     }
 }
 
-fn show_state(state: gate::Exchange) {
-    print::named(b"state", state.mode as u64);
-    print::number(b" ", state.id as u64);
-    print::number(b" ", state.repeat as u64);
-    print::number(b" ", state.sent as u64);
+fn show_state(rt: &impl Print, state: gate::Exchange) -> io::Result<()> {
+    print::named(rt, b"state", state.mode as u64)?;
+    print::number(rt, b" ", state.id as u64)?;
+    print::number(rt, b" ", state.repeat as u64)?;
+    print::number(rt, b" ", state.sent as u64)
 }
 
-fn stepped(step: gate::Stepped) -> gate::Exchange {
-    let asked = step.asked;
-    show_asked(asked);
-    let state = step.state;
-    show_state(state);
-    state
+fn stepped(rt: &impl Print, step: gate::Stepped) -> io::Result<gate::Exchange> {
+    show_asked(rt, step.asked)?;
+    show_state(rt, step.state)?;
+    Ok(step.state)
 }
 
 // The id that is sent, if one is.
@@ -36,26 +35,23 @@ fn sent_id(asked: Asked, last: u8) -> u8 {
 }
 
 // A start and its acknowledgement, so many times.
-fn cycle(state: gate::Exchange, count: usize) -> gate::Exchange {
+fn cycle(rt: &impl Print, state: gate::Exchange, count: usize) -> io::Result<gate::Exchange> {
     let mut ending = state;
     let mut last: u8 = 0;
-    let mut left = count;
-    while 0 < left {
+    for _ in 0..count {
         let waiting = gate::start(ending, 0);
-        let asked = waiting.asked;
-        last = sent_id(asked, last);
+        last = sent_id(waiting.asked, last);
         let over = gate::arrived(waiting.state, last, 1, 0);
         ending = over.state;
-        left -= 1;
     }
-    print::numbers(b"last", &[last]);
-    ending
+    print::numbers(rt, b"last", &[last])?;
+    Ok(ending)
 }
 
-fn show_cycle(state: gate::Exchange, count: usize) -> gate::Exchange {
-    let ending = cycle(state, count);
-    show_state(ending);
-    ending
+fn show_cycle(rt: &impl Print, state: gate::Exchange, count: usize) -> io::Result<gate::Exchange> {
+    let ending = cycle(rt, state, count)?;
+    show_state(rt, ending)?;
+    Ok(ending)
 }
 
 fn step(line: &[u8], asking: gate::Exchange) -> gate::Stepped {
@@ -82,23 +78,27 @@ fn stated(line: &[u8]) -> gate::Exchange {
     }
 }
 
-fn ask(line: &[u8], asking: gate::Exchange) -> gate::Exchange {
+fn ask(rt: &impl Print, line: &[u8], asking: gate::Exchange) -> io::Result<gate::Exchange> {
     if words::is(line, 1, b"fresh") {
-        return gate::fresh();
+        return Ok(gate::fresh());
     }
     if words::is(line, 1, b"state") {
-        return stated(line);
+        return Ok(stated(line));
     }
     if words::is(line, 1, b"cycle") {
         // a count of 16 bits, so that no line takes long
-        return show_cycle(asking, words::number16(line, 2) as usize);
+        return show_cycle(rt, asking, words::number16(line, 2) as usize);
     }
-    stepped(step(line, asking))
+    stepped(rt, step(line, asking))
 }
 
-pub(crate) fn run(line: &[u8], asking: gate::Exchange) -> gate::Exchange {
+pub(crate) fn run(
+    rt: &impl Print,
+    line: &[u8],
+    asking: gate::Exchange,
+) -> io::Result<gate::Exchange> {
     if words::is(line, 0, b"ask") {
-        return ask(line, asking);
+        return ask(rt, line, asking);
     }
-    asking
+    Ok(asking)
 }

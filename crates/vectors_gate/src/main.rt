@@ -1,13 +1,16 @@
 // Makes the calls on the gate exchange that standard input names, one a line, and prints each line again with what the call answered.
 // Both standard input and what is to be printed come from the second implementation, whose src/vectors.rs says how lines are written.
+#![tactic(auto)]
+
 mod asking;
 mod chain;
 mod responding;
 
-use vector_text::print;
+use std::io;
+use vector_text::{input, print, words};
 
 // The two ends, kept from line to line.
-#[derive(Drop)]
+#[derive(Clone, Copy)]
 struct Ends {
     asking: gate::Exchange,
     responder: gate::Responder,
@@ -21,33 +24,31 @@ fn fresh() -> Ends {
 }
 
 // One line, without its end.
-fn run_line(line: &[u8], ends: Ends) -> Ends {
-    print::text(line);
-    let asking = asking::run(line, ends.asking);
-    let responder = responding::run(line, ends.responder);
-    chain::run(line);
-    print::text(b"\n");
-    Ends {
-        asking: asking,
-        responder: responder,
-    }
+fn run_line(rt: &impl Print, line: &[u8], ends: Ends) -> io::Result<Ends> {
+    print::text(rt, line)?;
+    let asking = asking::run(rt, line, ends.asking)?;
+    let responder = responding::run(rt, line, ends.responder)?;
+    chain::run(rt, line)?;
+    print::text(rt, b"\n")?;
+    Ok(Ends { asking, responder })
 }
 
-fn run_lines(text: &[u8]) {
+fn run_lines(rt: &impl Print, text: &[u8]) -> io::Result<()> {
     let mut ends = fresh();
     let mut at = 0;
     while at < text.len() {
-        let end = bytes::scan::find(text, at, text.len(), b'\n');
-        ends = run_line(&text[at..end], ends);
+        let end = words::find(text, at, b'\n');
+        ends = run_line(rt, &text[at..end], ends)?;
         if end == text.len() {
-            return;
+            return Ok(());
         }
         at = end + 1;
     }
+    Ok(())
 }
 
-fn main() {
-    let mut text = io::large_buffer();
-    let length = io::read_full(libc::STDIN_FILENO, &mut text);
-    run_lines(&text[..length]);
+fn main(rt: HostRuntime) -> io::Result<()> {
+    let mut text = [0u8; 65536];
+    let length = input::read_full(&mut rt.stdin(), &mut text)?;
+    run_lines(&rt, &text[..length])
 }

@@ -1,32 +1,31 @@
 // Lines of the responding end.
 use expansion::Event;
 use gate::Reply;
+use std::io;
 use vector_text::{print, words};
 
 // Every reply has repeat 0.
-fn show_reply(reply: Reply) {
+fn show_reply(rt: &impl Print, reply: Reply) -> io::Result<()> {
     match reply {
-        Reply::Nothing => print::word(b"reply none"),
-        Reply::Send(id, kind, address) => print::numbers(b"reply", &[id, kind, 0, address]),
+        Reply::Nothing => print::word(rt, b"reply none"),
+        Reply::Send(id, kind, address) => print::numbers(rt, b"reply", &[id, kind, 0, address]),
     }
 }
 
 // Which id was handed out last, if one was.
-fn show_last(state: gate::Responder) {
+fn show_last(rt: &impl Print, state: gate::Responder) -> io::Result<()> {
     if state.handed {
-        print::named(b"last", state.last as u64);
+        print::named(rt, b"last", state.last as u64)
     } else {
-        print::word(b"last none");
+        print::word(rt, b"last none")
     }
 }
 
-fn responded(response: gate::Response) -> gate::Responder {
-    let reply = response.reply;
-    show_reply(reply);
-    print::named(b"handed", response.handed_out as u64);
-    let state = response.state;
-    show_last(state);
-    state
+fn responded(rt: &impl Print, response: gate::Response) -> io::Result<gate::Responder> {
+    show_reply(rt, response.reply)?;
+    print::named(rt, b"handed", response.handed_out as u64)?;
+    show_last(rt, response.state)?;
+    Ok(response.state)
 }
 
 fn stated(line: &[u8]) -> gate::Responder {
@@ -46,15 +45,22 @@ fn accepted(line: &[u8]) -> Event {
     })
 }
 
-fn respond_accepted(line: &[u8], responder: gate::Responder) -> gate::Responder {
+fn respond_accepted(
+    rt: &impl Print,
+    line: &[u8],
+    responder: gate::Responder,
+) -> io::Result<gate::Responder> {
     if words::is(line, 1, b"fresh") {
-        return gate::fresh_responder();
+        return Ok(gate::fresh_responder());
     }
     if words::is(line, 1, b"state") {
-        return stated(line);
+        return Ok(stated(line));
     }
     let event = accepted(line);
-    responded(gate::respond(responder, words::is(line, 1, b"head"), event, b""))
+    responded(
+        rt,
+        gate::respond(responder, words::is(line, 1, b"head"), event, b""),
+    )
 }
 
 // What the receiver told is a refusal, or nothing where its number is 0.
@@ -65,19 +71,30 @@ fn refused(fault: u8) -> Event {
     Event::Refused(fault)
 }
 
-fn respond_refused(line: &[u8], responder: gate::Responder) -> gate::Responder {
-    let mut store = io::buffer();
+fn respond_refused(
+    rt: &impl Print,
+    line: &[u8],
+    responder: gate::Responder,
+) -> io::Result<gate::Responder> {
+    let mut store = [0u8; 4096];
     let n = words::bytes(line, 3, b"", &mut store);
     let event = refused(words::byte(line, 2));
-    responded(gate::respond(responder, words::is(line, 1, b"head"), event, &store[..n]))
+    responded(
+        rt,
+        gate::respond(responder, words::is(line, 1, b"head"), event, &store[..n]),
+    )
 }
 
-pub(crate) fn run(line: &[u8], responder: gate::Responder) -> gate::Responder {
+pub(crate) fn run(
+    rt: &impl Print,
+    line: &[u8],
+    responder: gate::Responder,
+) -> io::Result<gate::Responder> {
     if words::is(line, 0, b"respond") {
-        return respond_accepted(line, responder);
+        return respond_accepted(rt, line, responder);
     }
     if words::is(line, 0, b"respond-refused") {
-        return respond_refused(line, responder);
+        return respond_refused(rt, line, responder);
     }
-    responder
+    Ok(responder)
 }

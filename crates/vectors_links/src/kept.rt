@@ -1,7 +1,7 @@
 // What is kept from line to line, besides the last frame and the store.
 
 // The link, the length of the last frame, the length of the store, and the receiver's state (of another link than MDU its base alone).
-#[derive(Drop)]
+#[derive(Clone, Copy)]
 pub(crate) struct Kept {
     pub(crate) link: u8,
     pub(crate) frame: usize,

@@ -1,4 +1,5 @@
 // Lines of the links' data accessors: a store of so many bytes, and a message of so much data.
+use std::io;
 use vector_text::links::{DLE, MDU, PCS};
 use vector_text::{memory, print, words};
 
@@ -54,8 +55,8 @@ fn part(line: &[u8], link: u8, store: &[u8]) -> usize {
     }
 }
 
-pub(crate) fn run(line: &[u8], link: u8) {
-    let store = io::buffer();
+pub(crate) fn run(rt: &impl Print, line: &[u8], link: u8) -> io::Result<()> {
+    let store = [0u8; 4096];
     let room = memory::within(words::size(line, 1), &store);
-    print::named(b"gives", part(line, link, &store[..room]) as u64);
+    print::named(rt, b"gives", part(line, link, &store[..room]) as u64)
 }

@@ -1,14 +1,15 @@
 // Lines of the links' receivers.
 use crate::kept::Kept;
 use crate::parts;
+use std::io;
 use vector_text::links::{DLE, MDU, PCS};
 use vector_text::memory::Content;
 use vector_text::{memory, print, words};
 
 // What every link's message ends with: the length of its data, and the data.
-fn show_data(length: usize, data: &[u8]) {
-    print::number(b" ", length as u64);
-    print::bytes(data);
+fn show_data(rt: &impl Print, length: usize, data: &[u8]) -> io::Result<()> {
+    print::number(rt, b" ", length as u64)?;
+    print::bytes(rt, data)
 }
 
 // A choice as a number.
@@ -16,8 +17,9 @@ fn bit_of(choice: bool) -> u8 {
     if choice { 1 } else { 0 }
 }
 
-fn show_pcs_message(message: pcs::Message, store: &[u8]) {
+fn show_pcs_message(rt: &impl Print, message: pcs::Message, store: &[u8]) -> io::Result<()> {
     print::numbers(
+        rt,
         b"message",
         &[
             message.receiver,
@@ -28,154 +30,189 @@ fn show_pcs_message(message: pcs::Message, store: &[u8]) {
             message.receiver_port,
             bit_of(message.crc),
         ],
-    );
-    show_data(message.length, pcs::data(store, message));
+    )?;
+    show_data(rt, message.length, pcs::data(store, message))
 }
 
-fn show_pcs(event: pcs::Event, store: &[u8]) {
+fn show_pcs(rt: &impl Print, event: pcs::Event, store: &[u8]) -> io::Result<()> {
     match event {
-        pcs::Event::Nothing => print::word(b"nothing"),
-        pcs::Event::Refused(fault) => print::named(b"refused", fault as u64),
-        pcs::Event::Accepted(message) => show_pcs_message(message, store),
+        pcs::Event::Nothing => print::word(rt, b"nothing"),
+        pcs::Event::Refused(fault) => print::named(rt, b"refused", fault as u64),
+        pcs::Event::Accepted(message) => show_pcs_message(rt, message, store),
     }
 }
 
-fn receive_pcs(state: mdu::State, store: &mut [u8], piece: &[u8]) -> mdu::State {
+fn receive_pcs(
+    rt: &impl Print,
+    state: mdu::State,
+    store: &mut [u8],
+    piece: &[u8],
+) -> io::Result<mdu::State> {
     let received = pcs::receive(state.base, store, piece);
-    print::named(b"used", received.used as u64);
-    let event = received.event;
-    show_pcs(event, store);
-    let base = received.state;
-    mdu::State {
-        base: base,
+    print::named(rt, b"used", received.used as u64)?;
+    show_pcs(rt, received.event, store)?;
+    Ok(mdu::State {
+        base: received.state,
         length: 0,
-    }
+    })
 }
 
-fn show_mdu_message(message: mdu::Message, store: &[u8]) {
-    print::numbers(b"message", &[message.address]);
-    show_data(message.length, mdu::data(store, message));
+fn show_mdu_message(rt: &impl Print, message: mdu::Message, store: &[u8]) -> io::Result<()> {
+    print::numbers(rt, b"message", &[message.address])?;
+    show_data(rt, message.length, mdu::data(store, message))
 }
 
-fn show_mdu(event: mdu::Event, store: &[u8]) {
+fn show_mdu(rt: &impl Print, event: mdu::Event, store: &[u8]) -> io::Result<()> {
     match event {
-        mdu::Event::Nothing => print::word(b"nothing"),
-        mdu::Event::Refused(fault) => print::named(b"refused", fault as u64),
-        mdu::Event::Accepted(message) => show_mdu_message(message, store),
+        mdu::Event::Nothing => print::word(rt, b"nothing"),
+        mdu::Event::Refused(fault) => print::named(rt, b"refused", fault as u64),
+        mdu::Event::Accepted(message) => show_mdu_message(rt, message, store),
     }
 }
 
-fn receive_mdu(state: mdu::State, store: &mut [u8], piece: &[u8]) -> mdu::State {
+fn receive_mdu(
+    rt: &impl Print,
+    state: mdu::State,
+    store: &mut [u8],
+    piece: &[u8],
+) -> io::Result<mdu::State> {
     let received = mdu::receive(state, store, piece);
-    print::named(b"used", received.used as u64);
-    let event = received.event;
-    show_mdu(event, store);
-    received.state
+    print::named(rt, b"used", received.used as u64)?;
+    show_mdu(rt, received.event, store)?;
+    Ok(received.state)
 }
 
 // A length of 0 marks an error message; its byte stands behind the 1.
-fn show_dle_message(message: dle::Message, store: &[u8]) {
+fn show_dle_message(rt: &impl Print, message: dle::Message, store: &[u8]) -> io::Result<()> {
     let is_error = (message.length == 0) as u8;
     print::numbers(
+        rt,
         b"message",
         &[message.sequence, message.node, is_error, message.error],
-    );
-    show_data(message.length as usize, dle::data(store, message));
+    )?;
+    show_data(rt, message.length as usize, dle::data(store, message))
 }
 
-fn show_dle(event: dle::Event, store: &[u8]) {
+fn show_dle(rt: &impl Print, event: dle::Event, store: &[u8]) -> io::Result<()> {
     match event {
-        dle::Event::Nothing => print::word(b"nothing"),
-        dle::Event::Refused(fault) => print::named(b"refused", fault as u64),
-        dle::Event::Accepted(message) => show_dle_message(message, store),
+        dle::Event::Nothing => print::word(rt, b"nothing"),
+        dle::Event::Refused(fault) => print::named(rt, b"refused", fault as u64),
+        dle::Event::Accepted(message) => show_dle_message(rt, message, store),
     }
 }
 
-fn receive_dle(state: mdu::State, store: &mut [u8], piece: &[u8]) -> mdu::State {
+fn receive_dle(
+    rt: &impl Print,
+    state: mdu::State,
+    store: &mut [u8],
+    piece: &[u8],
+) -> io::Result<mdu::State> {
     let received = dle::receive(state.base, store, piece);
-    print::named(b"used", received.used as u64);
-    let event = received.event;
-    show_dle(event, store);
-    let base = received.state;
-    mdu::State {
-        base: base,
+    print::named(rt, b"used", received.used as u64)?;
+    show_dle(rt, received.event, store)?;
+    Ok(mdu::State {
+        base: received.state,
         length: 0,
-    }
+    })
 }
 
-fn show_expansion_message(message: expansion::Message, store: &[u8]) {
+fn show_expansion_message(
+    rt: &impl Print,
+    message: expansion::Message,
+    store: &[u8],
+) -> io::Result<()> {
     print::numbers(
+        rt,
         b"message",
         &[message.id, message.kind, message.repeat, message.address],
-    );
-    show_data(message.length, expansion::data(store, message));
+    )?;
+    show_data(rt, message.length, expansion::data(store, message))
 }
 
-fn show_expansion(event: expansion::Event, store: &[u8]) {
+fn show_expansion(rt: &impl Print, event: expansion::Event, store: &[u8]) -> io::Result<()> {
     match event {
-        expansion::Event::Nothing => print::word(b"nothing"),
-        expansion::Event::Refused(fault) => print::named(b"refused", fault as u64),
-        expansion::Event::Accepted(message) => show_expansion_message(message, store),
+        expansion::Event::Nothing => print::word(rt, b"nothing"),
+        expansion::Event::Refused(fault) => print::named(rt, b"refused", fault as u64),
+        expansion::Event::Accepted(message) => show_expansion_message(rt, message, store),
     }
 }
 
-fn receive_expansion(state: mdu::State, store: &mut [u8], piece: &[u8]) -> mdu::State {
+fn receive_expansion(
+    rt: &impl Print,
+    state: mdu::State,
+    store: &mut [u8],
+    piece: &[u8],
+) -> io::Result<mdu::State> {
     let received = expansion::receive(state.base, store, piece);
-    print::named(b"used", received.used as u64);
-    let event = received.event;
-    show_expansion(event, store);
-    let base = received.state;
-    mdu::State {
-        base: base,
+    print::named(rt, b"used", received.used as u64)?;
+    show_expansion(rt, received.event, store)?;
+    Ok(mdu::State {
+        base: received.state,
         length: 0,
-    }
+    })
 }
 
-fn show_state(link: u8, state: mdu::State) {
+fn show_state(rt: &impl Print, link: u8, state: mdu::State) -> io::Result<()> {
     let base = state.base;
-    print::named(b"state", base.mode as u64);
-    print::number(b" ", base.count as u64);
+    print::named(rt, b"state", base.mode as u64)?;
+    print::number(rt, b" ", base.count as u64)?;
     if link == MDU {
-        print::number(b" ", state.length as u64);
+        print::number(rt, b" ", state.length as u64)?;
     }
-    print::number(b" ", base.open as u64);
-    print::number(b" ", base.noise as u64);
+    print::number(rt, b" ", base.open as u64)?;
+    print::number(rt, b" ", base.noise as u64)
 }
 
-fn receive(link: u8, state: mdu::State, store: &mut [u8], piece: &[u8]) -> mdu::State {
+fn receive(
+    rt: &impl Print,
+    link: u8,
+    state: mdu::State,
+    store: &mut [u8],
+    piece: &[u8],
+) -> io::Result<mdu::State> {
     match link {
-        PCS => receive_pcs(state, store, piece),
-        MDU => receive_mdu(state, store, piece),
-        DLE => receive_dle(state, store, piece),
-        _ => receive_expansion(state, store, piece),
+        PCS => receive_pcs(rt, state, store, piece),
+        MDU => receive_mdu(rt, state, store, piece),
+        DLE => receive_dle(rt, state, store, piece),
+        _ => receive_expansion(rt, state, store, piece),
     }
 }
 
-fn show_receive(link: u8, state: mdu::State, store: &mut [u8], piece: &[u8]) -> mdu::State {
-    let after = receive(link, state, store, piece);
-    show_state(link, after);
-    print::mix(b"store", store);
-    after
+fn show_receive(
+    rt: &impl Print,
+    link: u8,
+    state: mdu::State,
+    store: &mut [u8],
+    piece: &[u8],
+) -> io::Result<mdu::State> {
+    let after = receive(rt, link, state, store, piece)?;
+    show_state(rt, link, after)?;
+    print::mix(rt, b"store", store)?;
+    Ok(after)
 }
 
-fn run_receive(line: &[u8], kept: Kept, frame: &[u8], store: &mut [u8]) -> Kept {
-    let mut space = io::buffer();
+fn run_receive(
+    rt: &impl Print,
+    line: &[u8],
+    kept: Kept,
+    frame: &[u8],
+    store: &mut [u8],
+) -> io::Result<Kept> {
+    let mut space = [0u8; 4096];
     let last = memory::within(kept.frame, frame);
     let n = words::bytes(line, 1, &frame[..last], &mut space);
     let room = memory::within(kept.room, store);
-    let state = show_receive(kept.link, kept.state, &mut store[..room], &space[..n]);
     let mut after = kept;
-    after.state = state;
-    after
+    after.state = show_receive(rt, kept.link, kept.state, &mut store[..room], &space[..n])?;
+    Ok(after)
 }
 
 // A fresh state, and a store of so many bytes.
 fn run_fresh(line: &[u8], kept: Kept, store: &mut [u8]) -> Kept {
     memory::fill(Content::Lent, store);
-    let state = mdu::fresh();
     let mut after = kept;
     after.room = words::size(line, 1);
-    after.state = state;
+    after.state = mdu::fresh();
     after
 }
 
@@ -188,12 +225,12 @@ fn run_store(line: &[u8], kept: Kept, frame: &[u8], store: &mut [u8]) -> Kept {
 }
 
 // All bytes of the store, however many.
-fn show_content(room: usize, store: &[u8]) {
+fn show_content(rt: &impl Print, room: usize, store: &[u8]) -> io::Result<()> {
     let n = memory::within(room, store);
     if n == 0 {
-        print::word(b"-");
+        print::word(rt, b"-")
     } else {
-        print::hex(&store[..n]);
+        print::hex(rt, &store[..n])
     }
 }
 
@@ -233,26 +270,31 @@ fn stated(line: &[u8], link: u8) -> mdu::State {
     }
 }
 
-pub(crate) fn run(line: &[u8], kept: Kept, frame: &[u8], store: &mut [u8]) -> Kept {
+pub(crate) fn run(
+    rt: &impl Print,
+    line: &[u8],
+    kept: Kept,
+    frame: &[u8],
+    store: &mut [u8],
+) -> io::Result<Kept> {
     if words::is(line, 0, b"receive") {
-        return run_receive(line, kept, frame, store);
+        return run_receive(rt, line, kept, frame, store);
     }
     if words::is(line, 0, b"fresh") {
-        return run_fresh(line, kept, store);
+        return Ok(run_fresh(line, kept, store));
     }
     if words::is(line, 0, b"store") {
-        return run_store(line, kept, frame, store);
+        return Ok(run_store(line, kept, frame, store));
     }
     if words::is(line, 0, b"content") {
-        show_content(kept.room, store);
+        show_content(rt, kept.room, store)?;
     }
     if words::is(line, 0, b"part") {
-        parts::run(line, kept.link);
+        parts::run(rt, line, kept.link)?;
     }
     let mut after = kept;
     if words::is(line, 0, b"state") {
-        let state = stated(line, kept.link);
-        after.state = state;
+        after.state = stated(line, kept.link);
     }
-    after
+    Ok(after)
 }

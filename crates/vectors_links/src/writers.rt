@@ -3,6 +3,7 @@ ghost use Rattle.std.specs.Prelude.{◌<◌};
 
 use crate::kept::Kept;
 use framing::Answer;
+use std::io;
 use vector_text::links::{DLE, MDU, PCS};
 use vector_text::memory::Content;
 use vector_text::{memory, print, words};
@@ -79,34 +80,41 @@ fn keep(answer: Answer, out: &[u8], frame: &mut [u8], last: usize) -> usize {
     }
 }
 
-fn written(line: &[u8], kept: Kept, data: &[u8], out: &mut [u8], frame: &mut [u8]) -> usize {
+fn written(
+    rt: &impl Print,
+    line: &[u8],
+    kept: Kept,
+    data: &[u8],
+    out: &mut [u8],
+    frame: &mut [u8],
+) -> io::Result<usize> {
     memory::fill(Content::Lent, out);
     let answer = write(line, kept.link, data, out);
-    print::written(answer, b"frame", out);
-    keep(answer, out, frame, kept.frame)
+    print::written(rt, answer, b"frame", out)?;
+    Ok(keep(answer, out, frame, kept.frame))
 }
 
-fn run_write(line: &[u8], kept: Kept, frame: &mut [u8]) -> Kept {
-    let mut space = io::buffer();
-    let mut memory = io::buffer();
+fn run_write(rt: &impl Print, line: &[u8], kept: Kept, frame: &mut [u8]) -> io::Result<Kept> {
+    let mut space = [0u8; 4096];
+    let mut memory = [0u8; 4096];
     let k = data_at(line, kept.link);
     let n = words::bytes(line, k, b"", &mut space);
     let room = memory::within(words::size(line, k + 2), &memory);
     let mut after = kept;
-    after.frame = written(line, kept, &space[..n], &mut memory[..room], frame);
-    after
+    after.frame = written(rt, line, kept, &space[..n], &mut memory[..room], frame)?;
+    Ok(after)
 }
 
-pub(crate) fn run(line: &[u8], kept: Kept, frame: &mut [u8]) -> Kept {
+pub(crate) fn run(rt: &impl Print, line: &[u8], kept: Kept, frame: &mut [u8]) -> io::Result<Kept> {
     if words::is(line, 0, b"write") {
-        return run_write(line, kept, frame);
+        return run_write(rt, line, kept, frame);
     }
     if words::is(line, 0, b"write-error") {
-        return run_write(line, kept, frame);
+        return run_write(rt, line, kept, frame);
     }
     let mut after = kept;
     if words::is(line, 0, b"section") {
         after.link = words::first(line, 1);
     }
-    after
+    Ok(after)
 }

@@ -1,17 +1,20 @@
 // Makes the calls on records that standard input names, one a line, and prints each line again with what the call answered.
 // Both standard input and what is to be printed come from the second implementation, whose src/vectors.rs says how lines are written.
+#![tactic(auto)]
+
 mod makers;
 mod records;
 mod signs;
 mod views;
 
-use vector_text::{memory, print, words};
+use std::io;
+use vector_text::{input, memory, print, words};
 
 // A call with the bytes that the last `keep` line gave.
-fn run_call(call: &[u8], kept: &[u8]) {
-    records::run(call, kept);
-    makers::run(call);
-    views::run(call, kept);
+fn run_call(rt: &impl Print, call: &[u8], kept: &[u8]) -> io::Result<()> {
+    records::run(rt, call, kept)?;
+    makers::run(rt, call)?;
+    views::run(rt, call, kept)
 }
 
 // Keeps the bytes of a `keep` line; answers how many are kept.
@@ -23,31 +26,32 @@ fn keep(line: &[u8], kept: &mut [u8], last: usize) -> usize {
 }
 
 // One line, without its end; answers how many bytes are kept.
-fn run_line(line: &[u8], kept: &mut [u8], last: usize) -> usize {
-    print::text(line);
+fn run_line(rt: &impl Print, line: &[u8], kept: &mut [u8], last: usize) -> io::Result<usize> {
+    print::text(rt, line)?;
     let count = keep(line, kept, last);
     let n = memory::within(count, kept);
-    run_call(words::call(line), &kept[..n]);
-    print::text(b"\n");
-    n
+    run_call(rt, words::call(line), &kept[..n])?;
+    print::text(rt, b"\n")?;
+    Ok(n)
 }
 
-fn run_lines(text: &[u8], kept: &mut [u8]) {
+fn run_lines(rt: &impl Print, text: &[u8], kept: &mut [u8]) -> io::Result<()> {
     let mut last = 0;
     let mut at = 0;
     while at < text.len() {
-        let end = bytes::scan::find(text, at, text.len(), b'\n');
-        last = run_line(&text[at..end], kept, last);
+        let end = words::find(text, at, b'\n');
+        last = run_line(rt, &text[at..end], kept, last)?;
         if end == text.len() {
-            return;
+            return Ok(());
         }
         at = end + 1;
     }
+    Ok(())
 }
 
-fn main() {
-    let mut text = io::large_buffer();
-    let mut kept = io::buffer();
-    let length = io::read_full(libc::STDIN_FILENO, &mut text);
-    run_lines(&text[..length], &mut kept);
+fn main(rt: HostRuntime) -> io::Result<()> {
+    let mut text = [0u8; 65536];
+    let mut kept = [0u8; 4096];
+    let length = input::read_full(&mut rt.stdin(), &mut text)?;
+    run_lines(&rt, &text[..length], &mut kept)
 }

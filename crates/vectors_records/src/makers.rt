@@ -3,6 +3,7 @@ ghost use Rattle.vector_text.specs.Counted.{Counted};
 
 use crate::signs;
 use framing::Answer;
+use std::io;
 use vector_text::memory::Content;
 use vector_text::{memory, print, words};
 
@@ -60,20 +61,21 @@ fn write(line: &[u8], out: &mut [u8]) -> Answer {
     }
 }
 
-fn show_made(line: &[u8], out: &mut [u8]) {
+fn show_made(rt: &impl Print, line: &[u8], out: &mut [u8]) -> io::Result<()> {
     memory::fill(Content::Lent, out);
     let answer = write(line, out);
-    print::written(answer, b"record", out);
+    print::written(rt, answer, b"record", out)
 }
 
-fn make(line: &[u8]) {
-    let mut memory = io::buffer();
+fn make(rt: &impl Print, line: &[u8]) -> io::Result<()> {
+    let mut memory = [0u8; 4096];
     let room = memory::within(words::size(line, 5), &memory);
-    show_made(line, &mut memory[..room]);
+    show_made(rt, line, &mut memory[..room])
 }
 
-pub(crate) fn run(line: &[u8]) {
+pub(crate) fn run(rt: &impl Print, line: &[u8]) -> io::Result<()> {
     if words::is(line, 0, b"make") {
-        make(line);
+        make(rt, line)?;
     }
+    Ok(())
 }

@@ -1,14 +1,15 @@
 // Lines of records that are read: copied into a run of fares, and element by element.
 use crate::{makers, signs};
 use framing::Answer;
+use std::io;
 use vector_text::{print, words};
 
-fn show_count(answer: Answer) {
+fn show_count(rt: &impl Print, answer: Answer) -> io::Result<()> {
     match answer {
-        Answer::Done(count) => print::named(b"count", count as u64),
-        Answer::Refused(fault) => print::named(b"refused", fault as u64),
+        Answer::Done(count) => print::named(rt, b"count", count as u64)?,
+        Answer::Refused(fault) => print::named(rt, b"refused", fault as u64)?,
     }
-    print::word(b"places");
+    print::word(rt, b"places")
 }
 
 // Place k holds k + 1.
@@ -28,68 +29,67 @@ fn fill_signed(fares: &mut [i32]) {
     }
 }
 
-fn show_unsigned_places(fares: &[u32]) {
-    let mut k = 0;
-    while k < fares.len() {
-        signs::print_unsigned(fares[k]);
-        k += 1;
+fn show_unsigned_places(rt: &impl Print, fares: &[u32]) -> io::Result<()> {
+    for fare in fares {
+        signs::print_unsigned(rt, *fare)?;
     }
+    Ok(())
 }
 
-fn show_signed_places(fares: &[i32]) {
-    let mut k = 0;
-    while k < fares.len() {
-        signs::print_signed(fares[k]);
-        k += 1;
+fn show_signed_places(rt: &impl Print, fares: &[i32]) -> io::Result<()> {
+    for fare in fares {
+        signs::print_signed(rt, *fare)?;
     }
+    Ok(())
 }
 
-fn copy_unsigned(payload: &[u8], fares: &mut [u32]) {
+fn copy_unsigned(rt: &impl Print, payload: &[u8], fares: &mut [u32]) -> io::Result<()> {
     fill_unsigned(fares);
-    show_count(record::copy_unsigned(payload, fares));
-    show_unsigned_places(fares);
+    show_count(rt, record::copy_unsigned(payload, fares))?;
+    show_unsigned_places(rt, fares)
 }
 
-fn copy_signed(payload: &[u8], fares: &mut [i32]) {
+fn copy_signed(rt: &impl Print, payload: &[u8], fares: &mut [i32]) -> io::Result<()> {
     fill_signed(fares);
-    show_count(record::copy_signed(payload, fares));
-    show_signed_places(fares);
+    show_count(rt, record::copy_signed(payload, fares))?;
+    show_signed_places(rt, fares)
 }
 
 // At most 1,100 places.
-fn copy(line: &[u8], payload: &[u8]) {
+fn copy(rt: &impl Print, line: &[u8], payload: &[u8]) -> io::Result<()> {
     let room = words::size(line, 4);
     if words::is(line, 1, b"signed") {
         let mut fares: [i32; 1100] = [0; 1100];
         let n = makers::within_signed(room, &fares);
-        copy_signed(payload, &mut fares[..n]);
+        copy_signed(rt, payload, &mut fares[..n])
     } else {
         let mut fares: [u32; 1100] = [0; 1100];
         let n = makers::within_unsigned(room, &fares);
-        copy_unsigned(payload, &mut fares[..n]);
+        copy_unsigned(rt, payload, &mut fares[..n])
     }
 }
 
-fn element(line: &[u8], payload: &[u8]) {
+fn element(rt: &impl Print, line: &[u8], payload: &[u8]) -> io::Result<()> {
     let index = words::size(line, 3);
     if words::is(line, 1, b"signed") {
-        signs::show_signed(record::element_signed(payload, index));
+        signs::show_signed(rt, record::element_signed(payload, index))
     } else {
-        signs::show_unsigned(record::element_unsigned(payload, index));
+        signs::show_unsigned(rt, record::element_unsigned(payload, index))
     }
 }
 
-fn run_payload(line: &[u8], payload: &[u8]) {
+fn run_payload(rt: &impl Print, line: &[u8], payload: &[u8]) -> io::Result<()> {
     if words::is(line, 0, b"copy") {
-        copy(line, payload);
+        copy(rt, line, payload)?;
     }
     if words::is(line, 0, b"element") {
-        element(line, payload);
+        element(rt, line, payload)?;
     }
+    Ok(())
 }
 
-pub(crate) fn run(line: &[u8], kept: &[u8]) {
-    let mut payload = io::buffer();
+pub(crate) fn run(rt: &impl Print, line: &[u8], kept: &[u8]) -> io::Result<()> {
+    let mut payload = [0u8; 4096];
     let n = words::bytes(line, 2, kept, &mut payload);
-    run_payload(line, &payload[..n]);
+    run_payload(rt, line, &payload[..n])
 }

@@ -1,6 +1,6 @@
 // Signed numbers in words, and both sorts of elements.
-use libc::STDOUT_FILENO;
 use record::{SignedElement, UnsignedElement};
+use std::io;
 use vector_text::{print, words};
 
 // How far a value is from 0, or from -1 where it is negative: `!x` is -1 - x.
@@ -13,18 +13,17 @@ fn magnitude(value: i32) -> u32 {
 }
 
 // A signed number behind a space.
-pub(crate) fn print_signed(value: i32) {
+pub(crate) fn print_signed(rt: &impl Print, value: i32) -> io::Result<()> {
     let far = magnitude(value) as u64;
     if value < 0 {
-        print::text(b" -");
-        io::print_decimal(STDOUT_FILENO, far + 1);
+        print::number(rt, b" -", far + 1)
     } else {
-        print::number(b" ", far);
+        print::number(rt, b" ", far)
     }
 }
 
-pub(crate) fn print_unsigned(value: u32) {
-    print::number(b" ", value as u64);
+pub(crate) fn print_unsigned(rt: &impl Print, value: u32) -> io::Result<()> {
+    print::number(rt, b" ", value as u64)
 }
 
 // `!x` is -1 - x.
@@ -48,19 +47,19 @@ pub(crate) fn signed_at(line: &[u8], k: usize) -> i32 {
     if value < 2147483648 { value as i32 } else { 0 }
 }
 
-pub(crate) fn show_unsigned(element: UnsignedElement) {
+pub(crate) fn show_unsigned(rt: &impl Print, element: UnsignedElement) -> io::Result<()> {
     match element {
-        UnsignedElement::Fare(fare) => print::named(b"value", fare as u64),
-        UnsignedElement::Refused(fault) => print::named(b"refused", fault as u64),
+        UnsignedElement::Fare(fare) => print::named(rt, b"value", fare as u64),
+        UnsignedElement::Refused(fault) => print::named(rt, b"refused", fault as u64),
     }
 }
 
-pub(crate) fn show_signed(element: SignedElement) {
+pub(crate) fn show_signed(rt: &impl Print, element: SignedElement) -> io::Result<()> {
     match element {
         SignedElement::Fare(fare) => {
-            print::word(b"value");
-            print_signed(fare);
+            print::word(rt, b"value")?;
+            print_signed(rt, fare)
         }
-        SignedElement::Refused(fault) => print::named(b"refused", fault as u64),
+        SignedElement::Refused(fault) => print::named(rt, b"refused", fault as u64),
     }
 }

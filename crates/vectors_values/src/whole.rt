@@ -1,4 +1,5 @@
 // Lines of the host's calls on a whole frame.
+use std::io;
 use vector_text::links::{DLE, MDU, PCS};
 use vector_text::memory::Content;
 use vector_text::{memory, print, words};
@@ -12,22 +13,23 @@ fn read(link: u8, frame: &[u8], store: &mut [u8]) -> u64 {
     }
 }
 
-fn show_read(link: u8, frame: &[u8], store: &mut [u8]) {
+fn show_read(rt: &impl Print, link: u8, frame: &[u8], store: &mut [u8]) -> io::Result<()> {
     memory::fill(Content::Lent, store);
-    print::named(b"answer", read(link, frame, store));
-    print::mix(b"store", store);
+    print::named(rt, b"answer", read(link, frame, store))?;
+    print::mix(rt, b"store", store)
 }
 
-fn run_whole(line: &[u8]) {
-    let mut frame = io::buffer();
-    let mut store = io::buffer();
+fn run_whole(rt: &impl Print, line: &[u8]) -> io::Result<()> {
+    let mut frame = [0u8; 4096];
+    let mut store = [0u8; 4096];
     let n = words::bytes(line, 2, b"", &mut frame);
     let room = memory::within(words::size(line, 4), &store);
-    show_read(words::first(line, 1), &frame[..n], &mut store[..room]);
+    show_read(rt, words::first(line, 1), &frame[..n], &mut store[..room])
 }
 
-pub(crate) fn run(line: &[u8]) {
+pub(crate) fn run(rt: &impl Print, line: &[u8]) -> io::Result<()> {
     if words::is(line, 0, b"whole") {
-        run_whole(line);
+        run_whole(rt, line)?;
     }
+    Ok(())
 }

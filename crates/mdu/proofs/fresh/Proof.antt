@@ -1,9 +1,0 @@
-use Rattle.std.proofs.Common.{rules}
-use Rattle.mdu.proofs.fresh.Statement.{statement}
-use Rattle.mdu.proofs.fresh.Tie as tie
-
-returns : tie.Need-returns
-returns c = simp c.fresh.ensures
-
-pub fresh-spec : {M : Type 1} → statement M
-fresh-spec = tie.close (tie.spec (λ c κs. search rules) returns)

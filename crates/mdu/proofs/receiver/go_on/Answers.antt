@@ -1,0 +1,4 @@
+use Rattle.mdu.proofs.receiver.go_on.Goals as goal
+
+pub returns : goal.returns
+returns c = simp c.hold.ensures
