@@ -1,7 +1,7 @@
--- `Hidden`: the code of the link as its rules use it. `Passed`: the tests at the end of a frame. `Judge`: the end of a frame. `OnByte`: what each
+-- `Meanings`: the code of the link as its rules use it. `Passed`: the tests at the end of a frame. `Judge`: the end of a frame. `OnByte`: what each
 -- byte does. `Readback`: a frame is read back. `Lawful`, `Refused`, `Numbers`, `Places` which numbers it gives and what it leaves in the store, `Theorems`: the claims. `Count`, `Passing`: for the receiver's code. `Laid`: for
 -- the writer's.
-pub mod Hidden
+pub mod Meanings
 pub mod Passed
 pub mod Judge
 pub mod Typed

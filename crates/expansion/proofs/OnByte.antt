@@ -20,7 +20,7 @@ use Rattle.expansion.specs.Frame.{Message, ok, body, trailer, enclose}
 use Rattle.expansion.specs.Rules.{Phase, hunting, inside, size, gathered, held, fault_of, judge, gather, act, on_byte}
 use Rattle.expansion.specs.Contract.{numbers_of, message_of, link}
 use Rattle.runs.proofs.Each.{each_nil}
-use Rattle.expansion.proofs.Hidden.{Meant, meant}
+use Rattle.expansion.proofs.Meanings.{Meant, meant}
 use Rattle.expansion.proofs.Passed.{passed}
 use Rattle.expansion.proofs.Judge.{content, content_in, ok_in}
 use Rattle.expansion.proofs.Typed.{typed}

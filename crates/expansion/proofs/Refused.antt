@@ -27,7 +27,7 @@ use Rattle.expansion.specs.Rules.{Phase, hunting, inside, size, gathered, held, 
 use Rattle.expansion.specs.Contract.{phase_of, link}
 use Rattle.expansion.specs.Claims.{gathered_before, Stands, RefusedHeader, after_stream, RefusedAsSent}
 use Rattle.expansion.proofs.Passed.{checked_long}
-use Rattle.expansion.proofs.Hidden.{Meant, meant}
+use Rattle.expansion.proofs.Meanings.{Meant, meant}
 use Rattle.expansion.proofs.Lawful.{lawful}
 
 other : (n : ℕ) → (n ≡ 8 → ⊥) → ◌≡◌ {A = Option (Event Message)} (some (refusal n)) (some (refusal 8)) → ⊥

@@ -1,4 +1,6 @@
 // The expansion link of gate boards: writer and receiver.
+#![tactic(auto)]
+
 ghost use Rattle.std.specs.Prelude.{◌≡◌, List, ◌++◌, ◌&&◌, ℕ, ◌+◌, ◌≤◌, eqb, leb, length, take};
 ghost use Rattle.std.proofs.Math.Option.{some};
 ghost use Rattle.std.proofs.lemmas.List.Edits.{sets};
@@ -21,7 +23,7 @@ use framing::{Answer, Reached, State, refusal};
 const SIZE: usize = 1032;
 
 // An accepted message; its data lies in the store from place 4.
-#[derive(Drop)]
+#[derive(Clone, Copy)]
 pub struct Message {
     pub id: u8,
     pub kind: u8,
@@ -31,7 +33,7 @@ pub struct Message {
 }
 
 // What a call tells: nothing, a message, or the number of a refusal.
-#[derive(Drop)]
+#[derive(Clone, Copy)]
 pub enum Event {
     Nothing,
     Accepted(Message),
@@ -39,7 +41,7 @@ pub enum Event {
 }
 
 // What a call answers: what it tells, how many bytes of the piece it used, and the state for the next call.
-#[derive(Drop)]
+#[derive(Clone, Copy)]
 pub struct Received {
     pub event: Event,
     pub used: usize,
@@ -47,7 +49,7 @@ pub struct Received {
 }
 
 // What a byte makes: an event or none, and the state after it.
-#[derive(Drop)]
+#[derive(Clone, Copy)]
 struct Stepped {
     event: Event,
     state: State,

@@ -1,4 +1,6 @@
 // The gate exchange on the expansion link: the asking end, the responding end, and the steps of an address along the chain of boards.
+#![tactic(auto)]
+
 ghost use Rattle.std.specs.Prelude.{◌≡◌};
 ghost use Rattle.std.proofs.Math.Option.{some};
 ghost use Rattle.expansion.specs.Contract.{told_of};
@@ -29,7 +31,7 @@ const CHECK_ERROR: u8 = 2;
 
 // The asking end: its mode, the id of the latest request, how often that was sent again, and when it was sent last.
 // Any numbers may stand in it. The mode is as wide as id and repeat together, so that the struct has no padding.
-#[derive(Drop)]
+#[derive(Clone, Copy)]
 pub struct Exchange {
     pub mode: u16,
     pub id: u8,
@@ -38,7 +40,7 @@ pub struct Exchange {
 }
 
 // What the asking end is told: to send its request with this id and this repeat, or how the exchange stands.
-#[derive(Drop)]
+#[derive(Clone, Copy)]
 pub enum Asked {
     Send(u8, u8),
     Done,
@@ -48,7 +50,7 @@ pub enum Asked {
 }
 
 // What it is told, and its state after.
-#[derive(Drop)]
+#[derive(Clone, Copy)]
 pub struct Stepped {
     pub asked: Asked,
     pub state: Exchange,
@@ -185,21 +187,21 @@ pub fn arrived(state: Exchange, id: u8, kind: u8, now: u32) -> Stepped
 }
 
 // The responding end: whether a request was handed out, and the id of the last one.
-#[derive(Drop)]
+#[derive(Clone, Copy)]
 pub struct Responder {
     pub handed: bool,
     pub last: u8,
 }
 
 // The reply to send: none, or a message of this id, type and address, with repeat 0 and no data.
-#[derive(Drop)]
+#[derive(Clone, Copy)]
 pub enum Reply {
     Nothing,
     Send(u8, u8, u8),
 }
 
 // The reply, whether the request is handed out, and the state after.
-#[derive(Drop)]
+#[derive(Clone, Copy)]
 pub struct Response {
     pub reply: Reply,
     pub handed_out: bool,
@@ -304,7 +306,7 @@ pub fn respond(state: Responder, head: bool, event: Event, store: &[u8]) -> Resp
 }
 
 // A step along the chain: the frame is meant for here, or goes on with this address.
-#[derive(Drop)]
+#[derive(Clone, Copy)]
 pub enum Hop {
     Here,
     Onward(u8),

@@ -38,7 +38,7 @@ high size n h l m =
 
 -- a signed value that was stored, read or passed on comes back as it was
 pub read_back : (z : ℤ) → mag z < 2147483648 → to_z w32 (of_z w32 z) ≡ z
-read_back z h = to_z-of_z (record { sfits = h })
+read_back z h = to_z-of_z {w = w32} (record { sfits = h })
 
 -- the test `z < 0`, as the machine makes it
 abbrev pub Negative : ℤ → Bool → Type 0

@@ -49,6 +49,11 @@ module _ {A : Type 0} (F : Signedness A) (kind address : ℕ) (l : List A) where
     pub allows : allowed kind address (length l) ≡ true
     pub held : every (F.holds g.size) l ≡ true
 
+  -- from what the tests answered
+  pub sendable : {g : Form} {allows held : Bool} → g ≡ form_of kind → same F.signed g.signed ≡ true → allows ≡ allowed kind address (length l)
+      → allows ≡ true → held ≡ every (F.holds g.size) l → held ≡ true → Sendable g
+  sendable e s a at h ht = record { form_is = e; sign = s; allows = sym a ∙ at; held = sym h ∙ ht }
+
   module _ {g : Form} (s : Sendable g) where
     size_is : g.size ≡ size_of kind
     size_is = ap (λ x. x.size) s.form_is

@@ -6,7 +6,7 @@ ghost use Rattle.record.specs.Helpers.{IsSize};
 use runs::number_at;
 
 // What a record's type says of its elements: their size in bytes, whether they are signed, and the limit of address plus count.
-#[derive(Drop)]
+#[derive(Clone, Copy)]
 pub struct Form {
     pub size: usize,
     pub signed: bool,
@@ -14,7 +14,7 @@ pub struct Form {
 }
 
 // The type and the count of a well-formed record. Type 0, which no record has, stands for any other run.
-#[derive(Drop)]
+#[derive(Clone, Copy)]
 pub(crate) struct Header {
     pub(crate) kind: u8,
     pub(crate) count: usize,

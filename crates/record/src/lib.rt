@@ -1,4 +1,6 @@
 // Fare records: read, written, and held in a view. Unsigned types are copied as u32, signed ones as i32.
+#![tactic(auto)]
+
 mod form;
 mod read;
 mod views;
@@ -12,21 +14,21 @@ pub use views::{
 pub use write::{write_signed, write_unsigned};
 
 // An unsigned element that was read, or the number of a refusal.
-#[derive(Drop)]
+#[derive(Clone, Copy)]
 pub enum UnsignedElement {
     Fare(u32),
     Refused(u8),
 }
 
 // The same for a signed one.
-#[derive(Drop)]
+#[derive(Clone, Copy)]
 pub enum SignedElement {
     Fare(i32),
     Refused(u8),
 }
 
 // What an element number leads to, before it is said which signedness is asked for.
-#[derive(Drop)]
+#[derive(Clone, Copy)]
 pub enum Element {
     Unsigned(u32),
     Signed(i32),
@@ -36,7 +38,7 @@ pub enum Element {
 }
 
 // A view keeps hold of the lent payload, with the type and the count of the record. Any numbers may stand in it.
-#[derive(Drop)]
+#[derive(Clone, Copy)]
 pub struct RecordView<'a> {
     pub payload: &'a [u8],
     pub kind: u8,

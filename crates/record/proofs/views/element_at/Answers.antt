@@ -1,0 +1,13 @@
+use mathlib.Core.Path.{ap, ◌∙◌}
+use mathlib.Core.List.{List}
+use Rattle.std.proofs.Common.{Bor, ℕ}
+use Rattle.record.specs.Answers.{viewing}
+use Rattle.record.proofs.Viewing.{view_of}
+use Rattle.record.proofs.views.element_at.Goals as goal
+
+pub returns : goal.returns
+returns c =
+    let r = c.view.result in
+    let i = c.args.index in
+    c.view_element.ensures
+    ∙ (ap (λ (x : Bor (List ℕ)). viewing x.now r.kind r.count i) c.view.ensures.0 ∙ view_of c.args.bytes.now r.kind r.count i c.view.ensures.1)
