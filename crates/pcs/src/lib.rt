@@ -1,4 +1,6 @@
 // The PCS link of boards: writer and receiver.
+#![tactic(auto)]
+
 mod fields;
 mod writer;
 
@@ -25,7 +27,7 @@ const SIZE: usize = 1183;
 const PLAIN_SIZE: usize = 1180;
 
 // The numbers of a message. The data of an accepted one lie in the store from place 0.
-#[derive(Drop)]
+#[derive(Clone, Copy)]
 pub struct Message {
     pub receiver: u8,
     pub sender: u8,
@@ -38,7 +40,7 @@ pub struct Message {
 }
 
 // What a call tells: nothing, a message, or the number of a refusal.
-#[derive(Drop)]
+#[derive(Clone, Copy)]
 pub enum Event {
     Nothing,
     Accepted(Message),
@@ -46,7 +48,7 @@ pub enum Event {
 }
 
 // What a call answers: what it tells, how many bytes of the piece it used, and the state for the next call.
-#[derive(Drop)]
+#[derive(Clone, Copy)]
 pub struct Received {
     pub event: Event,
     pub used: usize,
@@ -54,14 +56,14 @@ pub struct Received {
 }
 
 // What a run is read as that is to be one whole frame: a message, or the number of a refusal.
-#[derive(Drop)]
+#[derive(Clone, Copy)]
 pub enum Whole {
     Accepted(Message),
     Refused(u8),
 }
 
 // What a byte makes: an event or none, and the state after it.
-#[derive(Drop)]
+#[derive(Clone, Copy)]
 struct Stepped {
     event: Event,
     state: State,
