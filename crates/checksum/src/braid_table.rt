@@ -1,6 +1,6 @@
 // The table of the CRC of the expansion link for long runs: four rows of 256 entries. Row k has, for each value of the eight bits from place 8 k up,
 // what the register of those bits alone is once all bits up to place 192 have left it.
-pub const BRAID32: [u32; 1024] = [
+pub static BRAID32: [u32; 1024] = [
     0x0000_0000,
     0x8125_6527,
     0xD93B_CC0F,

@@ -63,21 +63,21 @@ pub fn crc16(start: u16, bytes: &[u8]) -> u16
     value as u16
 }
 
-// From so many bytes on, the table of the 32-bit CRC for long runs is worth its laying out.
+// From so many bytes on, the 32-bit CRC is taken by registers side by side.
 const LONG: usize = 96;
 
 // The table of the CRC of the expansion link.
-fn table32() -> [u32; 128]
-    ensures { NibbleTable 0xEDB8_8320 result }
+fn table32() -> &'static [u32; 128]
+    ensures { NibbleTable 0xEDB8_8320 result.now }
 {
-    NIBBLES32
+    &NIBBLES32
 }
 
 // The table of the CRC of the expansion link for long runs.
-fn braid32() -> [u32; 1024]
-    ensures { BraidTable 0xEDB8_8320 result }
+fn braid32() -> &'static [u32; 1024]
+    ensures { BraidTable 0xEDB8_8320 result.now }
 {
-    BRAID32
+    &BRAID32
 }
 
 // The entry of a row for the lowest four bits.

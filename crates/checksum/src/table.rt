@@ -6,7 +6,7 @@ pub const CONSTANTS16: [u16; 16] = [
 
 // The table of the CRC of the expansion link: eight rows of 16 entries. Row k has, for each value of the four bits from place 4 k up, what the
 // register of those bits alone is once all bits up to place 32 have left it.
-pub const NIBBLES32: [u32; 128] = [
+pub static NIBBLES32: [u32; 128] = [
     0x0000_0000,
     0xB8BC_6765,
     0xAA09_C88B,

@@ -18,7 +18,6 @@ use Rattle.pcs.specs.Frame.{Message, ok, frame}
 use Rattle.pcs.specs.Contract as Pcs
 use Rattle.pcs.specs.Contract.{link}
 use Rattle.pcs.specs.declared.Message as Numbers
-use Rattle.pcs.proofs.Allowed.{sendable}
 use Rattle.pcs.proofs.Theorems.{only_frames}
 use Rattle.display.specs.Profile.{word, most_digits, largest, message_of, order_frame, begins_with, is_text, in_profile, order_of}
 use Rattle.display.specs.Reading.{judged, ordered, reading}

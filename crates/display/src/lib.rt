@@ -1,4 +1,6 @@
 // The three-digit display: a profile of PCS whose messages order a value to be shown, and the display's end.
+#![tactic(auto)]
+
 mod text;
 
 ghost use Rattle.std.specs.Prelude.{◌≡◌, true, ◌≤◌, length};
@@ -35,7 +37,7 @@ const PORT: u8 = 1;
 const CRC: bool = false;
 
 // What an order tells: who it is for and from, its number, and the value to be shown.
-#[derive(Drop)]
+#[derive(Clone, Copy)]
 pub struct Order {
     pub receiver: u8,
     pub sender: u8,
@@ -44,7 +46,7 @@ pub struct Order {
 }
 
 // What a run is read as: an order, or the number of a refusal.
-#[derive(Drop)]
+#[derive(Clone, Copy)]
 pub enum Reading {
     Accepted(Order),
     Refused(u8),
@@ -52,7 +54,7 @@ pub enum Reading {
 
 // The display's end: its own address, whether an order was taken, sender and number of the last one taken, and the three places shown. Any values
 // may stand in it.
-#[derive(Drop)]
+#[derive(Clone, Copy)]
 pub struct Display {
     pub own: u8,
     pub taken: bool,
@@ -62,7 +64,7 @@ pub struct Display {
 }
 
 // What a frame is replied with: nothing, an answer of so many bytes, or the number of a refusal.
-#[derive(Drop)]
+#[derive(Clone, Copy)]
 pub enum Reply {
     Nothing,
     Send(usize),
@@ -70,7 +72,7 @@ pub enum Reply {
 }
 
 // The reply, and the display after.
-#[derive(Drop)]
+#[derive(Clone, Copy)]
 pub struct Taken {
     pub reply: Reply,
     pub display: Display,

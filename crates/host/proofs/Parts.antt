@@ -6,7 +6,7 @@ use mathlib.Core.List.{List}
 use lib.ListN.{get_or}
 use Rattle.runs.specs.Runs.{Bytes}
 use Rattle.framing.specs.Answer.{Outcome}
-use Rattle.framing.specs.Link.{Link, told}
+use Rattle.framing.specs.Link.{Link}
 use Rattle.framing.specs.Whole.{OnlyFrames}
 use Rattle.host.specs.Read.{packed, encode, length_of, kind_of, crc_of, field_of}
 use Rattle.host.specs.Claims.{PartTold}

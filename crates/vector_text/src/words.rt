@@ -12,7 +12,7 @@ pub fn find(bytes: &[u8], from: usize, byte: u8) -> usize
     ensures place { from ≤ length bytes.now → result ≡ from + index_of byte (drop from bytes.now) }
     ensures within { result ≤ length bytes.now }
 {
-    if bytes.len() <= from {
+    if bytes.len() < from {
         return bytes.len();
     }
     from + runs::count_before(byte, byte, &bytes[from..])

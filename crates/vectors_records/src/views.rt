@@ -1,4 +1,4 @@
-// Lines of record views. The two functions that have a view are proved by hand, so they do nothing else.
+// Lines of record views.
 ghost use Rattle.std.specs.Prelude.{◌≡◌};
 ghost use Rattle.record.specs.Form.{header, header_of};
 ghost use Rattle.record.specs.Answers.{viewing, outcomes_of};

@@ -26,7 +26,10 @@ returns-in-Waits c =
     let e = c.in-Waits.is in
     let l = length-take-le a.state.count a.store.now (omega arith) in
     let m = ne_eqb a.state.mode 0 (omega arith) in
-    record { stepped = λ wire. rw (e, c.hold.ensures) (record { tells = refl; state = rw (m, l) }); stored = λ wire. rw e (same_over a.store.now a.state.count (omega arith)) }
+    record {
+      stepped = λ wire. rw (e, c.hold.ensures) (record { tells = refl; state = rw (m, l) });
+      stored = λ wire. rw e (same_over a.store.now a.state.count (omega arith));
+    }
 
 pub returns-in-Start : goal.returns-in-Start
 unfolding each
@@ -39,7 +42,13 @@ pub returns-in-End : goal.returns-in-End
 returns-in-End c =
     let a = c.args in
     let e = c.in-End.is in
-    record { stepped = λ wire. rw (e, c.close.ensures) (record { tells = c.judge_frame-event.ensures wire; state = rw (judge_noise (take a.state.count a.store.now) wire a.state.noise) }); stored = λ wire. rw e }
+    record {
+      stepped = λ wire. rw (e, c.close.ensures) (record {
+        tells = c.judge_frame-event.ensures wire;
+        state = rw (judge_noise (take a.state.count a.store.now) wire a.state.noise);
+      });
+      stored = λ wire. rw e;
+    }
 
 pub returns-in-Wrong : goal.returns-in-Wrong
 returns-in-Wrong c =

@@ -13,7 +13,11 @@ returns-then-at-lt-SIZE c =
     let k = a.state.count in
     let l = length-take-le k a.store.now (omega arith) in
     let t = lt-ltb (length (take k a.store.now)) size (omega arith) in
-    let m = ne_eqb a.state.mode 0 (omega arith) in record { stepped = λ wire. rw (t, c.hold.ensures) (record { tells = refl; state = rw (m, more_count a.store.now k a.byte (omega arith)) }); stored = λ wire. rw t (more-over a.store.now k a.byte (omega arith)) }
+    let m = ne_eqb a.state.mode 0 (omega arith) in
+    record {
+      stepped = λ wire. rw (t, c.hold.ensures) (record { tells = refl; state = rw (m, more_count a.store.now k a.byte (omega arith)) });
+      stored = λ wire. rw t (more-over a.store.now k a.byte (omega arith));
+    }
 
 pub returns-else-at-lt-SIZE : goal.returns-else-at-lt-SIZE
 returns-else-at-lt-SIZE c =

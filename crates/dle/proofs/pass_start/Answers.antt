@@ -14,10 +14,25 @@ returns-then-piece-from-eq2 c store =
     })
 
 pub returns-else-piece-from-eq2 : goal.returns-else-piece-from-eq2
-returns-else-piece-from-eq2 c store = let s = c.before in record { leads = leads_none link s.args.piece.now _ s.args.from s.requires.2; count = s.requires.1 }
+returns-else-piece-from-eq2 c store =
+    let s = c.before in
+    record {
+      leads = leads_none link s.args.piece.now _ s.args.from s.requires.2;
+      count = s.requires.1;
+    }
 
 pub returns-else-piece-from-eq16 : goal.returns-else-piece-from-eq16
-returns-else-piece-from-eq16 c store = let s = c.before in record { leads = leads_none link s.args.piece.now _ s.args.from s.requires.2; count = s.requires.1 }
+returns-else-piece-from-eq16 c store =
+    let s = c.before in
+    record {
+      leads = leads_none link s.args.piece.now _ s.args.from s.requires.2;
+      count = s.requires.1;
+    }
 
 pub returns-else-from-piece : goal.returns-else-from-piece
-returns-else-from-piece c store = let s = c.before in record { leads = leads_none link s.args.piece.now _ s.args.from s.requires.2; count = s.requires.1 }
+returns-else-from-piece c store =
+    let s = c.before in
+    record {
+      leads = leads_none link s.args.piece.now _ s.args.from s.requires.2;
+      count = s.requires.1;
+    }

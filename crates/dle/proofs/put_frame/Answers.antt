@@ -20,7 +20,8 @@ headed header rest out marked after o n room long put count =
     (count ∙ f.0, f.1)
 
 -- and the data behind it
-filled : (header rest out before after : List ℕ) (o : Outcome ℕ) (m n : ℕ) → length (enclose (header ++ rest)) ≤ length out → length before ≡ length out
+filled : (header rest out before after : List ℕ) (o : Outcome ℕ) (m n : ℕ) → length (enclose (header ++ rest)) ≤ length out
+    → length before ≡ length out
     → m ≡ length (hide dle header) → (o, after) ≡ stored_at (hide dle rest) before (2 + m) → n ≡ count_of o
     → (n ≡ length (hide dle rest)) × (after ≡ sets before (2 + m) (hide dle rest)) × (2 + m + n + 2 ≤ length out)
 filled header rest out before after o m n room long place put count =
@@ -32,13 +33,15 @@ filled header rest out before after o m n room long place put count =
 pub overflow_add-place : goal.overflow_add-place
 overflow_add-place c =
     let a = c.args in
-    let h = headed a.header.now a.«data».now _ _ _ _ _ c.requires c.put_mark.auto.out c.dle_hide_into-hidden_header.ensures c.count_of-place.ensures in
+    let h = headed a.header.now a.«data».now _ _ _ _ _ c.requires c.put_mark.auto.out
+    c.dle_hide_into-hidden_header.ensures c.count_of-place.ensures in
     omega (arith, frame-length a.header.now a.«data».now, h.0)
 
 pub overflow_add-end : goal.overflow_add-end
 overflow_add-end c =
     let a = c.args in
-    let h = headed a.header.now a.«data».now _ _ _ _ _ c.requires c.put_mark.auto.out c.dle_hide_into-hidden_header.ensures c.count_of-place.ensures in
+    let h = headed a.header.now a.«data».now _ _ _ _ _ c.requires c.put_mark.auto.out
+    c.dle_hide_into-hidden_header.ensures c.count_of-place.ensures in
     let f = filled a.header.now a.«data».now a.out.now _ _ _ _ _ c.requires (c.dle_hide_into-hidden_header.auto.out ∙ c.put_mark.auto.out) h.0
     c.dle_hide_into-hidden_data.ensures c.count_of.ensures in
     omega (arith, f.2)
@@ -46,7 +49,8 @@ overflow_add-end c =
 pub put_mark-requires-2 : goal.put_mark-requires-2
 put_mark-requires-2 c =
     let a = c.args in
-    let h = headed a.header.now a.«data».now _ _ _ _ _ c.requires c.put_mark.auto.out c.dle_hide_into-hidden_header.ensures c.count_of-place.ensures in
+    let h = headed a.header.now a.«data».now _ _ _ _ _ c.requires c.put_mark.auto.out
+    c.dle_hide_into-hidden_header.ensures c.count_of-place.ensures in
     let f = filled a.header.now a.«data».now a.out.now _ _ _ _ _ c.requires (c.dle_hide_into-hidden_header.auto.out ∙ c.put_mark.auto.out) h.0
     c.dle_hide_into-hidden_data.ensures c.count_of.ensures in
     omega (arith, f.2, c.dle_hide_into-hidden_data.auto.out, c.dle_hide_into-hidden_header.auto.out, c.put_mark.auto.out)
@@ -54,7 +58,8 @@ put_mark-requires-2 c =
 pub overflow_add-result : goal.overflow_add-result
 overflow_add-result c =
     let a = c.args in
-    let h = headed a.header.now a.«data».now _ _ _ _ _ c.requires c.put_mark.auto.out c.dle_hide_into-hidden_header.ensures c.count_of-place.ensures in
+    let h = headed a.header.now a.«data».now _ _ _ _ _ c.requires c.put_mark.auto.out
+    c.dle_hide_into-hidden_header.ensures c.count_of-place.ensures in
     let f = filled a.header.now a.«data».now a.out.now _ _ _ _ _ c.requires (c.dle_hide_into-hidden_header.auto.out ∙ c.put_mark.auto.out) h.0
     c.dle_hide_into-hidden_data.ensures c.count_of.ensures in
     omega (arith, f.2)
@@ -62,7 +67,8 @@ overflow_add-result c =
 pub returns-clause-long : goal.returns-clause-long
 returns-clause-long c =
     let a = c.args in
-    let h = headed a.header.now a.«data».now _ _ _ _ _ c.requires c.put_mark.auto.out c.dle_hide_into-hidden_header.ensures c.count_of-place.ensures in
+    let h = headed a.header.now a.«data».now _ _ _ _ _ c.requires c.put_mark.auto.out
+    c.dle_hide_into-hidden_header.ensures c.count_of-place.ensures in
     let f = filled a.header.now a.«data».now a.out.now _ _ _ _ _ c.requires (c.dle_hide_into-hidden_header.auto.out ∙ c.put_mark.auto.out) h.0
     c.dle_hide_into-hidden_data.ensures c.count_of.ensures in
     omega (arith, frame-length a.header.now a.«data».now, h.0, f.0)
@@ -70,7 +76,8 @@ returns-clause-long c =
 pub returns-clause-put : goal.returns-clause-put
 returns-clause-put c =
     let a = c.args in
-    let h = headed a.header.now a.«data».now _ _ _ _ _ c.requires c.put_mark.auto.out c.dle_hide_into-hidden_header.ensures c.count_of-place.ensures in
+    let h = headed a.header.now a.«data».now _ _ _ _ _ c.requires c.put_mark.auto.out
+    c.dle_hide_into-hidden_header.ensures c.count_of-place.ensures in
     let f = filled a.header.now a.«data».now a.out.now _ _ _ _ _ c.requires (c.dle_hide_into-hidden_header.auto.out ∙ c.put_mark.auto.out) h.0
     c.dle_hide_into-hidden_data.ensures c.count_of.ensures in
     frame_stored a.header.now a.«data».now a.out.now _ _ _ (2 + c.count_of-place.result) (2 + c.count_of-place.result + c.count_of.result)

@@ -14,7 +14,8 @@ returns-then-n-le255 c =
     let a = t.args in
     let n = length a.«data».now in
     c.send.ensures
-    ∙ sym (writes_stored ok frame (content a.sequence a.node a.«data».now) a.out.now (rw (le-leb 1 n t.if-n-lt1.false, le-leb n 255 t.if-n-le255.true)))
+    ∙ sym (writes_stored ok frame (content a.sequence a.node a.«data».now) a.out.now
+    (rw (le-leb 1 n t.if-n-lt1.false, le-leb n 255 t.if-n-le255.true)))
 
 pub returns-else-n-le255 : goal.returns-else-n-le255
 returns-else-n-le255 c =

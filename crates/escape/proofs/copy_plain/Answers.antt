@@ -44,4 +44,7 @@ returns c =
     let l = c.before in
     let a = l.args in
     let rest = drop a.from a.wire.now in
-    record { count = omega (arith, l.loop-k.invariant, before_within a.escapes.first a.escapes.escape rest, length-drop a.from a.wire.now); put = l.loop-k.invariant.3 }
+    record {
+      count = omega (arith, l.loop-k.invariant, before_within a.escapes.first a.escapes.escape rest, length-drop a.from a.wire.now);
+      put = l.loop-k.invariant.3;
+    }

@@ -16,6 +16,7 @@ returns-then-mode-eq0 c =
     let a = s.args in
     let n = before 0xFD 0xFD (drop a.from a.piece.now) in
     rw c.pass_hunting.ensures (record {
-      leads = leads_hunting a.piece.now a.state a.store.now a.from n c.if-mode-eq0.true s.requires.2 (ap (before 0xFD 0xFD) (sym (part_rest a.piece.now a.from)));
+      leads = leads_hunting a.piece.now a.state a.store.now a.from n c.if-mode-eq0.true s.requires.2
+          (ap (before 0xFD 0xFD) (sym (part_rest a.piece.now a.from)));
       count = by_eqb (λ (x : State). x.count ≤ size) n 0 (λ _. s.requires.0) (λ _. omega arith);
     })

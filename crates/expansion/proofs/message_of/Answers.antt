@@ -7,4 +7,5 @@ use Rattle.expansion.proofs.message_of.Goals as goal
 pub returns : goal.returns
 returns c =
     let g = c.args.gathered.now in
-    ap (λ (n : ℕ). record { id = get_or g 0 0; kind = get_or g 1 0; repeat = get_or g 2 0; address = get_or g 3 0; length = n }) (sym (payload_length g c.requires))
+    ap (λ (n : ℕ). record { id = get_or g 0 0; kind = get_or g 1 0; repeat = get_or g 2 0; address = get_or g 3 0; length = n })
+    (sym (payload_length g c.requires))

@@ -18,7 +18,8 @@ module _ (header payload trailer out : List ℕ) (room : length (enclose (header
   whole = enclose (header ++ (payload ++ trailer))
 
   -- the header is stored behind the FD
-  module _ (out₁ : List ℕ) (o₁ : Outcome ℕ) (n₁ : ℕ) (put₁ : (o₁, out₁) ≡ stored_at (hide expansion header) (set out 0 0xFD) 1) (count₁ : n₁ ≡ count_of o₁) where
+  module _ (out₁ : List ℕ) (o₁ : Outcome ℕ) (n₁ : ℕ) (put₁ : (o₁, out₁) ≡ stored_at (hide expansion header) (set out 0 0xFD) 1)
+      (count₁ : n₁ ≡ count_of o₁) where
     headed : (n₁ ≡ length (hide expansion header)) × (out₁ ≡ sets (set out 0 0xFD) 1 (hide expansion header))
     headed =
         let f = stored_fits (hide expansion header) (set out 0 0xFD) 1 out₁ o₁ put₁
@@ -30,7 +31,8 @@ module _ (header payload trailer out : List ℕ) (room : length (enclose (header
     after-header = laid-header header payload trailer out room (1 + n₁) out₁ (ap (λ (n : ℕ). 1 + n) headed.0) headed.1
 
     -- the data behind it
-    module _ (out₂ : List ℕ) (o₂ : Outcome ℕ) (n₂ : ℕ) (put₂ : (o₂, out₂) ≡ stored_at (hide expansion payload) out₁ (1 + n₁)) (count₂ : n₂ ≡ count_of o₂) where
+    module _ (out₂ : List ℕ) (o₂ : Outcome ℕ) (n₂ : ℕ) (put₂ : (o₂, out₂) ≡ stored_at (hide expansion payload) out₁ (1 + n₁))
+        (count₂ : n₂ ≡ count_of o₂) where
       filled : (n₂ ≡ length (hide expansion payload)) × (out₂ ≡ sets out₁ (1 + n₁) (hide expansion payload))
       filled =
           let f = stored_fits (hide expansion payload) out₁ (1 + n₁) out₂ o₂ put₂
@@ -64,7 +66,8 @@ module _ (header payload trailer out : List ℕ) (room : length (enclose (header
 pub overflow_add-a : goal.overflow_add-a
 overflow_add-a c =
     let a = c.args in
-    let r = after-header a.header.now a.«data».now a.trailer.now a.out.now c.requires _ _ _ c.expansion_hide_into-hidden_header.ensures c.count_of-a.ensures in
+    let r = after-header a.header.now a.«data».now a.trailer.now a.out.now c.requires
+    _ _ _ c.expansion_hide_into-hidden_header.ensures c.count_of-a.ensures in
     omega (arith, r.left, r.fits)
 
 pub overflow_add-b : goal.overflow_add-b

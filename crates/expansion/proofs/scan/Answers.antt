@@ -17,7 +17,8 @@ returns-then-i-piece c =
     let g = c.before in
     let l = g.before in
     let a = l.args in
-    passed-all link (a.state, a.store.now) (g.advance-reached.result.state, g.advance-reached.new.store) a.piece.now g.advance-reached.result.next c.if-i-piece.true
+    passed-all link (a.state, a.store.now) (g.advance-reached.result.state, g.advance-reached.new.store) a.piece.now
+    g.advance-reached.result.next c.if-i-piece.true
     (g.advance-reached.ensures.leads.passes (a.state, a.store.now) l.loop-i.invariant.4)
 
 pub step-s-requires : goal.step-s-requires
@@ -50,7 +51,8 @@ loop-i-preserved c =
     let c₀ : Lent link = (a.state, a.store.now) in
     let d : Lent link = (g.advance-reached.result.state, g.advance-reached.new.store) in (
       omega arith,
-      count_next d.0 d.1 (get_or a.piece.now g.advance-reached.result.next 0) s.step-s.result s.step-s.new.store s.step-s.ensures g.advance-reached.ensures.count,
+      count_next d.0 d.1 (get_or a.piece.now g.advance-reached.result.next 0)
+          s.step-s.result s.step-s.new.store s.step-s.ensures g.advance-reached.ensures.count,
       s.step-s.auto.store ∙ g.advance-reached.ensures.leads.same_length ∙ l.loop-i.invariant.2,
       l.loop-i.invariant.3,
       passed-more link c₀ d (s.step-s.result.state, s.step-s.new.store) a.piece.now g.advance-reached.result.next (told_of s.step-s.result.event)
