@@ -2,10 +2,12 @@
 use Prim.Native.Nat.{ℕ, zero, suc, ◌+◌, ◌*◌, ◌-◌, ◌/◌, ◌≤◌, ◌<◌, min}
 use mathlib.Core.Path.{◌≡◌, refl, ap, sym, ◌∙◌}
 use mathlib.Core.List.{List, [], ◌∷◌}
+use mathlib.Core.Bool.{Bool, true, false, ◌&&◌}
 use native.Mathlib.Omega.{arith}
+use lib.Dec.{leb}
 use lib.ListN.{length, take, drop, get_or, length-take, drop_of_length-le}
 use lib.Seq.{drop-length, drop-drop, get_or-take}
-use borrow.Author.Tests.{ne_eqb}
+use borrow.Author.Tests.{ne_eqb, le-leb, lt-leb, leb-true}
 use Rattle.runs.proofs.Bytes.{drop-next}
 use Rattle.vector_text.specs.Laid.{run_byte, same_byte, laid}
 use Rattle.vector_text.specs.Words.{index_of, words_from, word_of, first_byte, with_digit, decimal_from, parsed_decimal, hex_of, unhexed, fitted, given_by}
@@ -54,6 +56,19 @@ words_none line at k (suc n) h e = absurd (omega arith)
 pub first_none : (word : List ℕ) → length word ≤ 0 → 0 ≡ first_byte word
 first_none [] h = refl
 first_none (b ∷ bs) h = absurd (omega arith)
+
+-- whether a byte lies in a range
+module _ (low high b : ℕ) where
+  pub lies_in : low ≤ b → b ≤ high → leb low b && leb b high ≡ true
+  lies_in l h = rw (le-leb low b l) (le-leb b high h)
+
+  pub lies_out : (low ≤ b → b ≤ high → ⊥) → leb low b && leb b high ≡ false
+  lies_out n = go (leb low b) (leb b high) refl refl
+    where
+      go : (x y : Bool) → leb low b ≡ x → leb b high ≡ y → x && y ≡ false
+      go true true e f = absurd (n (leb-true low b e) (leb-true b high f))
+      go true false e f = refl
+      go false y e f = refl
 
 module _ (word : List ℕ) where
   pub decimal_end : (n i t : ℕ) → length word ≤ i → decimal_from n (drop i word) ≡ t → n ≡ t
@@ -106,3 +121,11 @@ module _ (word : List ℕ) (room : ℕ) where
 
   pub whole-at : (n : ℕ) → n < min (length word / 2) room → get_or (take room (unhexed word)) n 0 ≡ hex_of (get_or word (2 * n) 0) * 16 + hex_of (get_or word (2 * n + 1) 0)
   whole-at n h = get_or-take room (unhexed word) n 0 (omega arith) ∙ unhexed-at word n (omega arith)
+
+-- a run that fits, and one that does not
+module _ (room : ℕ) (run : List ℕ) where
+  pub fitted-all : length run ≤ room → fitted room run ≡ run
+  fitted-all h = rw (le-leb (length run) room h)
+
+  pub fitted_none : room < length run → fitted room run ≡ []
+  fitted_none h = rw (lt-leb (length run) room h)

@@ -8,14 +8,14 @@ use std::io;
 
 // Bytes as they are.
 pub fn text(rt: &impl Print, bytes: &[u8]) -> io::Result<()>
-    ensures { bytes.now ≡ bytes.now }
+    ensures { bytes.exit.now ≡ bytes.entry.now }
 {
     rt.write_all(bytes)
 }
 
 // A word behind a space.
 pub fn word(rt: &impl Print, name: &[u8]) -> io::Result<()>
-    ensures { name.now ≡ name.now }
+    ensures { name.exit.now ≡ name.entry.now }
 {
     text(rt, b" ")?;
     text(rt, name)
@@ -23,7 +23,7 @@ pub fn word(rt: &impl Print, name: &[u8]) -> io::Result<()>
 
 // A number, and what stands before it.
 pub fn number(rt: &impl Print, before: &[u8], value: u64) -> io::Result<()>
-    ensures { before.now ≡ before.now }
+    ensures { before.exit.now ≡ before.entry.now }
 {
     text(rt, before)?;
     rt.print(value)
@@ -35,7 +35,7 @@ fn next(rt: &impl Print, value: u64) -> io::Result<()> {
 
 // A name and one-byte numbers.
 pub fn numbers(rt: &impl Print, name: &[u8], values: &[u8]) -> io::Result<()>
-    ensures { (name.now ≡ name.now) × (values.now ≡ values.now) }
+    ensures { (name.exit.now ≡ name.entry.now) × (values.exit.now ≡ values.entry.now) }
 {
     word(rt, name)?;
     for value in values {
@@ -46,7 +46,7 @@ pub fn numbers(rt: &impl Print, name: &[u8], values: &[u8]) -> io::Result<()>
 
 // A name and a number.
 pub fn named(rt: &impl Print, name: &[u8], value: u64) -> io::Result<()>
-    ensures { name.now ≡ name.now }
+    ensures { name.exit.now ≡ name.entry.now }
 {
     word(rt, name)?;
     next(rt, value)
@@ -65,7 +65,7 @@ fn hex_byte(rt: &impl Print, byte: u8) -> io::Result<()> {
 
 // Bytes in upper-case hex, behind a space.
 pub fn hex(rt: &impl Print, bytes: &[u8]) -> io::Result<()>
-    ensures { bytes.now ≡ bytes.now }
+    ensures { bytes.exit.now ≡ bytes.entry.now }
 {
     text(rt, b" ")?;
     for byte in bytes {
@@ -76,7 +76,7 @@ pub fn hex(rt: &impl Print, bytes: &[u8]) -> io::Result<()>
 
 // Bytes of an answer: `-` for none, `long` for more than 64.
 pub fn bytes(rt: &impl Print, bytes: &[u8]) -> io::Result<()>
-    ensures { bytes.now ≡ bytes.now }
+    ensures { bytes.exit.now ≡ bytes.entry.now }
 {
     if bytes.len() == 0 {
         word(rt, b"-")
@@ -89,14 +89,14 @@ pub fn bytes(rt: &impl Print, bytes: &[u8]) -> io::Result<()>
 
 // A name, and the number that the bytes are compared by.
 pub fn mix(rt: &impl Print, name: &[u8], bytes: &[u8]) -> io::Result<()>
-    ensures { (name.now ≡ name.now) × (bytes.now ≡ bytes.now) }
+    ensures { (name.exit.now ≡ name.entry.now) × (bytes.exit.now ≡ bytes.entry.now) }
 {
     named(rt, name, memory::mix(bytes))
 }
 
 // What a writer answered, the bytes under this name, and the memory lent.
 pub fn written(rt: &impl Print, answer: Answer, name: &[u8], out: &[u8]) -> io::Result<()>
-    ensures { (name.now ≡ name.now) × (out.now ≡ out.now) }
+    ensures { (name.exit.now ≡ name.entry.now) × (out.exit.now ≡ out.entry.now) }
 {
     match answer {
         Answer::Done(count) => {
