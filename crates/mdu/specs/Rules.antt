@@ -55,7 +55,9 @@ enter g = cond (header_fault g == 0) (in_body (stated g) g, none) (hunting, some
 -- the last byte of a body of k: 8 where the check value differs
 abbrev pub finish : ℕ → List ℕ → Segment Message
 finish k g =
-    cond (sent_check k g == crc16_of (body_part k g)) (accepted_frame (record { address = slice_index g 4; body = body_part k g })) (refused_frame 8 g)
+    cond (sent_check k g == crc16_of (body_part k g))
+    (accepted_frame (record { address = slice_index g 4; body = body_part k g }))
+    (refused_frame 8 g)
 
 -- hunting looks for E3, which inside a frame is a byte like any other
 abbrev pub on_byte : Phase → ℕ → Phase × Option (Segment Message)

@@ -1,6 +1,7 @@
 -- What is claimed of packing beyond the contracts of the functions: where each bit of the data stands, and when unpacking gives 13.
 -- proofs/Places.antt and proofs/Refused.antt prove it.
-use Rattle.std.specs.Prelude.{◌≡◌, ℕ, suc, ◌+◌, ◌-◌, ◌*◌, ◌/◌, ◌%◌, ◌^◌, ◌<◌, min, Bool, true, not, ◌||◌, ◌↔◌, List, length, take, drop, ◌==◌, slice_index, slice_index_or}
+use Rattle.std.specs.Prelude.{◌≡◌, ℕ, suc, ◌+◌, ◌-◌, ◌*◌, ◌/◌, ◌%◌, ◌^◌, ◌<◌, min, Bool, true, not, ◌||◌, ◌↔◌, List, length, take, drop}
+use Rattle.std.specs.Prelude.{◌==◌, slice_index, slice_index_or}
 use Rattle.runs.specs.Runs.{Bytes}
 use Rattle.framing.specs.Answer.{refused}
 use Rattle.packing.specs.Seven.{sent, value_of}

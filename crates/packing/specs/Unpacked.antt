@@ -1,5 +1,6 @@
 -- Unpacking, and what is badly packed.
-use Rattle.std.specs.Prelude.{ℕ, zero, suc, ◌+◌, ◌-◌, ◌*◌, ◌/◌, ◌%◌, ◌^◌, min, Bool, true, cond, not, ◌&&◌, List, [], ◌∷◌, ◌++◌, length, take, drop, ◌==◌, slice_index}
+use Rattle.std.specs.Prelude.{ℕ, zero, suc, ◌+◌, ◌-◌, ◌*◌, ◌/◌, ◌%◌, ◌^◌, min, Bool, true, cond, not, ◌&&◌, List, [], ◌∷◌, ◌++◌, length}
+use Rattle.std.specs.Prelude.{take, drop, ◌==◌, slice_index}
 use Rattle.std.proofs.Math.Option.{Option, none, some}
 use Rattle.packing.specs.Seven.{is_sent, value_of}
 use Rattle.packing.specs.Packed.{last_place}

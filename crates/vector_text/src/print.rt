@@ -1,5 +1,5 @@
-// What is printed of an answer: words, each behind a space. No contract can say what is written; what is lent stays as it came. A write that fails ends
-// the call with its error, and what came before it is written.
+// What is printed of an answer: words, each behind a space. No contract can say what is written; what is lent stays as it came. A write that fails
+// ends the call with its error, and what came before it is written.
 ghost use Rattle.std.specs.Prelude.{◌≡◌, ◌<◌};
 
 use crate::memory;

@@ -2,7 +2,8 @@
 ghost use Rattle.std.specs.Prelude.{◌≡◌, true, ◌↔◌, ◌≤◌, ◌+◌, ◌%◌, ◌^◌, min, length, take, drop};
 ghost use Rattle.vector_text.specs.Counted.{PutAtStart};
 ghost use Rattle.vector_text.specs.Laid.{byte_of, laid};
-ghost use Rattle.vector_text.specs.Words.{index_of, words_from, word_of, first_byte, with_digit, parsed_decimal, number_of, hex_of, unhexed, given_by, example};
+ghost use Rattle.vector_text.specs.Words.{index_of, words_from, word_of, first_byte, with_digit, parsed_decimal, number_of, hex_of};
+ghost use Rattle.vector_text.specs.Words.{unhexed, given_by, example};
 
 use crate::memory;
 use crate::memory::Content;
