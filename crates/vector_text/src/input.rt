@@ -1,29 +1,27 @@
 // Reading the whole input of a program.
-ghost use Rattle.std.specs.Prelude.{IfOk};
+ghost use Rattle.std.specs.Prelude.{ℕ, ◌<◌, ◌≤◌, length, take, IfOk, OnErr};
+ghost use Rattle.std.specs.Io.KnownBytes.{Consumes, IsAtEnd};
 ghost use Rattle.vector_text.specs.Counted.{Counted};
 
 use std::io;
-use std::io::{ErrorKind, Read};
+use std::io::Read;
 
-// Reads to the end of the input, or until the memory is full, and answers how many bytes it put at its start. A read that a signal interrupts is made
-// again.
-pub fn read_full(input: &mut impl Read, out: &mut [u8]) -> io::Result<usize>
-    ensures { IfOk result (λ n. Counted n out.new) }
+// Reads to the end of the input, or until the memory is full, and answers how many bytes it put at its start. A read that fails ends the call with its
+// error; what was read before stands at the start.
+pub fn read_full<R: Read>(input: &mut R, out: &mut [u8]) -> io::Result<usize>
+    ensures count { IfOk result (λ n. Counted n out.new) }
+    ensures bytes { IfOk result (λ n. Consumes (R.remaining input.old) (R.remaining input.new) (take n out.new)) }
+    ensures err { OnErr result ((n : ℕ) × (n ≤ length out.new)
+        × Consumes (R.remaining input.old) (R.remaining input.new) (take n out.new)) }
+    ensures end { IfOk result (λ n. n < length out.new → IsAtEnd (R.remaining input.new)) }
 {
     let mut done = 0;
-    for _ in 0..u64::MAX {
-        if done == out.len() {
+    while done < out.len() {
+        let n = input.read(&mut out[done..])?;
+        if n == 0 {
             return Ok(done);
         }
-        match input.read(&mut out[done..]) {
-            Ok(0) => return Ok(done),
-            Ok(n) => done += n,
-            Err(e) => {
-                if e.kind() != ErrorKind::Interrupted {
-                    return Err(e);
-                }
-            }
-        }
+        done += n;
     }
     Ok(done)
 }
