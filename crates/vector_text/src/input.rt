@@ -6,8 +6,8 @@ ghost use Rattle.vector_text.specs.Counted.{Counted};
 use std::io;
 use std::io::Read;
 
-// Reads to the end of the input, or until the memory is full, and answers how many bytes it put at its start. A read that fails ends the call with its
-// error; what was read before stands at the start.
+// Reads to the end of the input, or until the memory is full, and answers how many bytes it put at its start; the error of a read that fails. The
+// clauses speak of the bytes of a reader that tells what it will give; the standard input tells nothing, and no clause says that a read goes well.
 pub fn read_full<R: Read>(input: &mut R, out: &mut [u8]) -> io::Result<usize>
     ensures count { IfOk result (λ n. Counted n out.new) }
     ensures bytes { IfOk result (λ n. Consumes (R.remaining input.old) (R.remaining input.new) (take n out.new)) }

@@ -1,5 +1,5 @@
 // The words of a line, counted from 0. A word that is not there is empty: it stands for 0 and for no bytes.
-ghost use Rattle.std.specs.Prelude.{◌≡◌, true, ◌↔◌, ◌≤◌, ◌+◌, ◌%◌, ◌^◌, min, length, take, drop};
+ghost use Rattle.std.specs.Prelude.{◌≡◌, true, ◌↔◌, ◌<◌, ◌≤◌, ◌+◌, ◌%◌, ◌^◌, min, length, take, drop};
 ghost use Rattle.vector_text.specs.Counted.{PutAtStart};
 ghost use Rattle.vector_text.specs.Laid.{byte_of, laid};
 ghost use Rattle.vector_text.specs.Words.{index_of, words_from, word_of, first_byte, with_digit, parsed_decimal, number_of, hex_of};
@@ -11,6 +11,7 @@ use crate::memory::Content;
 // The first place of such a byte from a place on; the length where there is none.
 pub fn find(bytes: &[u8], from: usize, byte: u8) -> usize
     ensures place { from ≤ length bytes.now → result ≡ from + index_of byte (drop from bytes.now) }
+    ensures beyond { length bytes.now < from → result ≡ length bytes.now }
     ensures within { result ≤ length bytes.now }
 {
     if bytes.len() < from {
