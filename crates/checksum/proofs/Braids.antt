@@ -1,25 +1,21 @@
 -- Registers side by side: what a braid stands for, one block of words on, and where its last block leads.
 use mathlib.Core.Path.{◌≡◌, refl, sym, ap, ap₂, ◌∙◌, subst}
-use mathlib.Core.List.{List, [], ◌∷◌, map}
-use Prim.Native.Nat.{ℕ, zero, suc, ◌+◌, ◌*◌, ◌≤◌}
-use native.Mathlib.Nat.{add_comm, add_assoc}
+use mathlib.Core.List.{List, [], ◌∷◌, ◌++◌, map}
+use Prim.Native.Nat.{ℕ, zero, suc, ◌+◌, ◌*◌, ◌/◌, ◌<◌, ◌≤◌}
+use native.Mathlib.Nat.{add_comm}
 use native.Mathlib.Omega.{arith}
 use lib.Bits.{bit_xor, xor_zero_r}
-use lib.ListN.{length, take, drop}
-use Rattle.runs.specs.Runs.{Bytes}
+use lib.ListN.{length, get_or, take, drop, length-drop, length-map, take-append-drop}
+use lib.Seq.{length-take-le, take-add}
+use Rattle.std.specs.List.{fold, zip}
+use Rattle.std.specs.Simd.{first_chunks}
+use Rattle.std.proofs.lemmas.List.{map-append}
+use Rattle.std.proofs.lemmas.List.Sums.{fold-append}
 use Rattle.runs.specs.Number.{little_endian}
 use Rattle.checksum.specs.Crc.{shifts}
-use Rattle.checksum.specs.Tables.{AfterBytes}
-use Rattle.checksum.specs.Braids.{run_words, StandsFor, Braided}
+use Rattle.checksum.specs.Braids.{both, run_words, StandsFor}
 use Rattle.checksum.proofs.Linear.{xor_swap, shifts_add, shifts-sum, shifts_none}
-use Rattle.checksum.proofs.Run.{bytes_start, bytes_word}
 use Rattle.checksum.proofs.Xor.{xor_assoc}
-
--- words xored, one by one
-unfoldable pub both : List ℕ → List ℕ → List ℕ
-both [] ys = ys
-both (x ∷ xs) [] = x ∷ xs
-both (x ∷ xs) (y ∷ ys) = bit_xor x y ∷ both xs ys
 
 -- the order in which bits leave does not matter
 shifts-swap : (p i j a : ℕ) → shifts p i (shifts p j a) ≡ shifts p j (shifts p i a)
@@ -65,36 +61,6 @@ unfolding StandsFor
 words_with p c braid ws e h =
     words_sum p 0 0 braid ws e ∙ ap (λ (x : ℕ). bit_xor x (run_words p 0 ws)) (h ∙ ap (λ (n : ℕ). shifts p (32 * n) c) e) ∙ sym (words_from_lem p c ws)
 
--- a word more, k bytes behind a place
-word_next : (p s : ℕ) (u : List ℕ) (i k c w : ℕ) → Bytes u → i + (k + 4) ≤ length u → w ≡ little_endian (take 4 (drop (i + k) u)) → AfterBytes p s u (i + k) c
-    → AfterBytes p s u (i + (k + 4)) (shifts p 32 (bit_xor c w))
-word_next p s u i k c w b h e a =
-    subst (λ (j : ℕ). AfterBytes p s u j (shifts p 32 (bit_xor c w))) (add_assoc i k 4) (bytes_word p s u (i + k) c _ w a b (omega (arith, h)) e refl)
-
--- six words of a run from a place on
-pub record SixWords (u : List ℕ) (i w₀ w₁ w₂ w₃ w₄ w₅ : ℕ) : Type 0 where
-  pub bytes : Bytes u
-  pub within : i + 24 ≤ length u
-  pub at₀ : w₀ ≡ little_endian (take 4 (drop i u))
-  pub at₁ : w₁ ≡ little_endian (take 4 (drop (i + 4) u))
-  pub at₂ : w₂ ≡ little_endian (take 4 (drop (i + 8) u))
-  pub at₃ : w₃ ≡ little_endian (take 4 (drop (i + 12) u))
-  pub at₄ : w₄ ≡ little_endian (take 4 (drop (i + 16) u))
-  pub at₅ : w₅ ≡ little_endian (take 4 (drop (i + 20) u))
-
-pub six_words : (p s : ℕ) (u : List ℕ) (i c w₀ w₁ w₂ w₃ w₄ w₅ : ℕ) → SixWords u i w₀ w₁ w₂ w₃ w₄ w₅ → AfterBytes p s u i c
-    → AfterBytes p s u (i + 24) (run_words p c (w₀ ∷ w₁ ∷ w₂ ∷ w₃ ∷ w₄ ∷ w₅ ∷ []))
-unfolding run_words
-six_words p s u i c w₀ w₁ w₂ w₃ w₄ w₅ six a =
-    let b = six.bytes in
-    let h = six.within in
-    word_next p s u i 20 _ w₅ b h six.at₅
-    (word_next p s u i 16 _ w₄ b (omega (arith, h)) six.at₄
-    (word_next p s u i 12 _ w₃ b (omega (arith, h)) six.at₃
-    (word_next p s u i 8 _ w₂ b (omega (arith, h)) six.at₂
-    (word_next p s u i 4 _ w₁ b (omega (arith, h)) six.at₁
-    (bytes_word p s u i c _ w₀ a b (omega (arith, h)) six.at₀ refl)))))
-
 unfoldable zeros : ℕ → List ℕ
 zeros zero = []
 zeros (suc n) = 0 ∷ zeros n
@@ -108,37 +74,133 @@ zeros-run p c (suc n) =
     ∙ sym (shifts_add p 32 (32 * n) c) ∙ ap (λ (k : ℕ). shifts p k c) one_more
 
 -- the start, and zeros for the other registers
-pub braid_start : (p s : ℕ) (u : List ℕ) → Braided p s u 0 (s ∷ 0 ∷ 0 ∷ 0 ∷ 0 ∷ 0 ∷ [])
+pub braid_start : (p s : ℕ) → StandsFor p (s ∷ 0 ∷ 0 ∷ 0 ∷ 0 ∷ 0 ∷ []) s
 unfolding StandsFor run_words zeros
-braid_start p s u = (s, bytes_start p s u, zeros-run p (shifts p 32 s) 5 ∙ sym (shifts_add p 32 160 s))
+braid_start p s = zeros-run p (shifts p 32 s) 5 ∙ sym (shifts_add p 32 160 s)
 
--- one block on: each register with its word, once the bits of a block have left
-pub braid_next : (p s : ℕ) (u : List ℕ) (i a b c d e f w₀ w₁ w₂ w₃ w₄ w₅ : ℕ) {next : List ℕ} → SixWords u i w₀ w₁ w₂ w₃ w₄ w₅
-    → next ≡ map (shifts p 192) (both (a ∷ b ∷ c ∷ d ∷ e ∷ f ∷ []) (w₀ ∷ w₁ ∷ w₂ ∷ w₃ ∷ w₄ ∷ w₅ ∷ []))
-    → Braided p s u i (a ∷ b ∷ c ∷ d ∷ e ∷ f ∷ []) → Braided p s u (i + 24) next
-unfolding StandsFor both
-braid_next p s u i a b c d e f w₀ w₁ w₂ w₃ w₄ w₅ six q (x, after, stands) =
-    let braid : List ℕ = a ∷ b ∷ c ∷ d ∷ e ∷ f ∷ [] in
-    let ws : List ℕ = w₀ ∷ w₁ ∷ w₂ ∷ w₃ ∷ w₄ ∷ w₅ ∷ [] in
-    subst (Braided p s u (i + 24)) (sym q) (
-      run_words p x ws,
-      six_words p s u i x w₀ w₁ w₂ w₃ w₄ w₅ six after,
-      ap (λ (y : ℕ). run_words p y (map (shifts p 192) (both braid ws))) (sym (shifts_none p 192))
-          ∙ words_shifts p 192 0 (both braid ws) ∙ ap (shifts p 192) (words_with p x braid ws refl stands),
-    )
+both-length : (xs ys : List ℕ) → length xs ≡ length ys → length (both xs ys) ≡ length xs
+unfolding both
+both-length [] [] e = refl
+both-length [] (y ∷ ys) e = absurd (omega (arith, e))
+both-length (x ∷ xs) [] e = refl
+both-length (x ∷ xs) (y ∷ ys) e = ap suc (both-length xs ys (omega (arith, e)))
 
--- the last block: each word in turn, with its register
-pub braid_joined : (p x : ℕ) (u : List ℕ) (a b c d e f w₀ w₁ w₂ w₃ w₄ w₅ : ℕ) {r₀ r₁ r₂ r₃ r₄ r₅ : ℕ} → SixWords u 0 w₀ w₁ w₂ w₃ w₄ w₅
-    → r₀ ≡ shifts p 32 (bit_xor a w₀) → r₁ ≡ shifts p 32 (bit_xor r₀ (bit_xor b w₁)) → r₂ ≡ shifts p 32 (bit_xor r₁ (bit_xor c w₂))
-    → r₃ ≡ shifts p 32 (bit_xor r₂ (bit_xor d w₃)) → r₄ ≡ shifts p 32 (bit_xor r₃ (bit_xor e w₄)) → r₅ ≡ shifts p 32 (bit_xor r₄ (bit_xor f w₅))
-    → StandsFor p (a ∷ b ∷ c ∷ d ∷ e ∷ f ∷ []) x → AfterBytes p x u 24 r₅
+-- one block on: each of six registers with its word, once the bits of a block have left
+braid_next : (p c : ℕ) (braid ws : List ℕ) → length braid ≡ 6 → length ws ≡ 6 → StandsFor p braid c → StandsFor p (map (shifts p 192) (both braid ws)) (run_words p c ws)
+unfolding StandsFor
+braid_next p c braid ws e h stands =
+    let same : length braid ≡ length ws = e ∙ sym h in
+    let six : length (map (shifts p 192) (both braid ws)) ≡ 6 = length-map (both braid ws) (shifts p 192) ∙ both-length braid ws same ∙ e in
+    ap (λ (y : ℕ). run_words p y (map (shifts p 192) (both braid ws))) (sym (shifts_none p 192))
+    ∙ words_shifts p 192 0 (both braid ws) ∙ ap (shifts p 192) (words_with p c braid ws same stands)
+    ∙ ap (λ (n : ℕ). shifts p (32 * n) (run_words p c ws)) (sym six)
+
+-- every block has six words
+unfoldable pub Sixes : List (List (List ℕ)) → Type 0
+Sixes [] = Unit {0}
+Sixes (b ∷ bs) = (length b ≡ 6) × Sixes bs
+
+sixes_chunks : (m : ℕ) (ws : List (List ℕ)) → m * 6 ≤ length ws → Sixes (first_chunks 6 m ws)
+unfolding Sixes
+sixes_chunks zero ws h = tt
+sixes_chunks (suc m) ws h = (length-take-le 6 ws (omega arith), sixes_chunks m (drop 6 ws) (simp length-drop (omega arith)))
+
+sixes_front : (xs ys : List (List (List ℕ))) → Sixes (xs ++ ys) → Sixes xs
+unfolding Sixes
+sixes_front [] ys h = tt
+sixes_front (x ∷ xs) ys h = (h.0, sixes_front xs ys h.1)
+
+-- a braid, and the register that it stands for, a block on
+abbrev pub braid_step : ℕ → List ℕ → List (List ℕ) → List ℕ
+braid_step p braid b = map (shifts p 192) (both braid (map little_endian b))
+
+abbrev block_step : ℕ → ℕ → List (List ℕ) → ℕ
+block_step p c b = run_words p c (map little_endian b)
+
+braid_blocks : (p c : ℕ) (braid : List ℕ) (bs : List (List (List ℕ))) → length braid ≡ 6 → Sixes bs → StandsFor p braid c
+    → StandsFor p (fold (braid_step p) braid bs) (fold (block_step p) c bs)
+unfolding Sixes
+braid_blocks p c braid [] e h stands = stands
+braid_blocks p c braid (b ∷ bs) e h stands =
+    let ws = map little_endian b in
+    let six : length ws ≡ 6 = length-map b little_endian ∙ h.0 in
+    braid_blocks p (run_words p c ws) (map (shifts p 192) (both braid ws)) bs
+    (length-map (both braid ws) (shifts p 192) ∙ both-length braid ws (e ∙ sym six) ∙ e) h.1 (braid_next p c braid ws e six stands)
+
+-- blocks one after the other are their words one after the other
+words_append : (p c : ℕ) (xs ys : List ℕ) → run_words p c (xs ++ ys) ≡ run_words p (run_words p c xs) ys
+unfolding run_words
+words_append p c [] ys = refl
+words_append p c (x ∷ xs) ys = words_append p (shifts p 32 (bit_xor c x)) xs ys
+
+blocks_words : (p c m : ℕ) (ws : List (List ℕ)) → fold (block_step p) c (first_chunks 6 m ws) ≡ run_words p c (map little_endian (take (m * 6) ws))
+unfolding run_words
+blocks_words p c zero ws = refl
+blocks_words p c (suc m) ws =
+    let six : suc m * 6 ≡ 6 + m * 6 = omega arith in
+    blocks_words p (run_words p c (map little_endian (take 6 ws))) m (drop 6 ws)
+    ∙ sym (words_append p c (map little_endian (take 6 ws)) (map little_endian (take (m * 6) (drop 6 ws))))
+    ∙ ap (run_words p c) (sym (map-append little_endian (take 6 ws) (take (m * 6) (drop 6 ws)))
+    ∙ ap (map little_endian) (sym (take-add 6 (m * 6) ws) ∙ ap (λ (n : ℕ). take n ws) (sym six)))
+
+-- all blocks but the last by a braid, the last joined, and the words behind them
+pub words_by_blocks : (p s j : ℕ) (ws : List (List ℕ)) (bs : List (List (List ℕ))) (last : List (List ℕ)) → first_chunks 6 (length ws / 6) ws ≡ bs ++ last ∷ []
+    → ((c : ℕ) → StandsFor p (fold (braid_step p) (s ∷ 0 ∷ 0 ∷ 0 ∷ 0 ∷ 0 ∷ []) bs) c → j ≡ run_words p c (map little_endian last))
+    → run_words p j (map little_endian (drop (length ws / 6 * 6) ws)) ≡ run_words p s (map little_endian ws)
+words_by_blocks p s j ws bs last e joined =
+    let m = length ws / 6 in
+    let before = map little_endian (take (m * 6) ws) in
+    let behind = map little_endian (drop (m * 6) ws) in
+    let sixes = sixes_front bs (last ∷ []) (subst Sixes e (sixes_chunks m ws (omega arith))) in
+    let all : fold (block_step p) s (first_chunks 6 m ws) ≡ run_words p s before = blocks_words p s m ws in
+    let split : fold (block_step p) s (bs ++ last ∷ []) ≡ run_words p (fold (block_step p) s bs) (map little_endian last) = fold-append (block_step p) s bs (last ∷ []) in
+    ap (λ (x : ℕ). run_words p x behind)
+    (joined (fold (block_step p) s bs) (braid_blocks p s (s ∷ 0 ∷ 0 ∷ 0 ∷ 0 ∷ 0 ∷ []) bs refl sixes (braid_start p s))
+    ∙ sym split ∙ ap (fold (block_step p) s) (sym e) ∙ all)
+    ∙ sym (words_append p s before behind)
+    ∙ ap (run_words p s) (sym (map-append little_endian (take (m * 6) ws) (drop (m * 6) ws)) ∙ ap (map little_endian) (take-append-drop (m * 6) ws))
+
+-- a braid and a block, as pairs
+pub join_fold : (p c : ℕ) (braid : List ℕ) (b : List (List ℕ)) → length braid ≡ length b
+    → fold (λ c x. shifts p 32 (bit_xor c (bit_xor x.0 (little_endian x.1)))) c (zip braid b) ≡ run_words p c (both braid (map little_endian b))
 unfolding run_words both
-braid_joined p x u a b c d e f w₀ w₁ w₂ w₃ w₄ w₅ {r₅ = r₅} six e₀ e₁ e₂ e₃ e₄ e₅ stands =
-    subst (AfterBytes p x u 24) (sym (in_turn ∙ words_with p x (a ∷ b ∷ c ∷ d ∷ e ∷ f ∷ []) (w₀ ∷ w₁ ∷ w₂ ∷ w₃ ∷ w₄ ∷ w₅ ∷ []) refl stands))
-    (six_words p x u 0 x w₀ w₁ w₂ w₃ w₄ w₅ six (bytes_start p x u))
-  where
-    word : ℕ → ℕ → ℕ → ℕ
-    word g w y = shifts p 32 (bit_xor y (bit_xor g w))
+join_fold p c [] [] e = refl
+join_fold p c [] (y ∷ ys) e = absurd (omega (arith, e))
+join_fold p c (x ∷ xs) [] e = absurd (omega (arith, e))
+join_fold p c (x ∷ xs) (y ∷ ys) e = join_fold p (shifts p 32 (bit_xor c (bit_xor x (little_endian y)))) xs ys (omega (arith, e))
 
-    in_turn : r₅ ≡ run_words p 0 (both (a ∷ b ∷ c ∷ d ∷ e ∷ f ∷ []) (w₀ ∷ w₁ ∷ w₂ ∷ w₃ ∷ w₄ ∷ w₅ ∷ []))
-    in_turn = e₅ ∙ ap (word f w₅) (e₄ ∙ ap (word e w₄) (e₃ ∙ ap (word d w₃) (e₂ ∙ ap (word c w₂) (e₁ ∙ ap (word b w₁) e₀))))
+-- six elements, one by one
+six_by : {A : Type 0} (P : List A → Type 0) → ((a b c d e f : A) → P (a ∷ b ∷ c ∷ d ∷ e ∷ f ∷ [])) → (xs : List A) → length xs ≡ 6 → P xs
+six_by P h (a ∷ b ∷ c ∷ d ∷ e ∷ f ∷ []) q = h a b c d e f
+six_by P h [] q = absurd (omega (arith, q))
+six_by P h (a ∷ []) q = absurd (omega (arith, q))
+six_by P h (a ∷ b ∷ []) q = absurd (omega (arith, q))
+six_by P h (a ∷ b ∷ c ∷ []) q = absurd (omega (arith, q))
+six_by P h (a ∷ b ∷ c ∷ d ∷ []) q = absurd (omega (arith, q))
+six_by P h (a ∷ b ∷ c ∷ d ∷ e ∷ []) q = absurd (omega (arith, q))
+six_by P h (a ∷ b ∷ c ∷ d ∷ e ∷ f ∷ g ∷ xs) q = absurd (omega (arith, q))
+
+module _ (p : ℕ) where
+  -- register i a block on
+  abbrev pub stepped : List ℕ → List (List ℕ) → ℕ → ℕ
+  stepped braid b i = shifts p 192 (bit_xor (get_or braid i 0) (little_endian (get_or b i [])))
+
+  six_stepped : (braid : List ℕ) (b : List (List ℕ)) → length braid ≡ 6 → length b ≡ 6
+      → stepped braid b 0 ∷ stepped braid b 1 ∷ stepped braid b 2 ∷ stepped braid b 3 ∷ stepped braid b 4 ∷ stepped braid b 5 ∷ [] ≡ braid_step p braid b
+  unfolding both
+  six_stepped braid b q =
+      six_by (λ ys. stepped braid ys 0 ∷ stepped braid ys 1 ∷ stepped braid ys 2 ∷ stepped braid ys 3 ∷ stepped braid ys 4 ∷ stepped braid ys 5 ∷ [] ≡ braid_step p braid ys)
+      (λ v₀ v₁ v₂ v₃ v₄ v₅.
+      six_by (λ xs. let ys = v₀ ∷ v₁ ∷ v₂ ∷ v₃ ∷ v₄ ∷ v₅ ∷ [] in
+      stepped xs ys 0 ∷ stepped xs ys 1 ∷ stepped xs ys 2 ∷ stepped xs ys 3 ∷ stepped xs ys 4 ∷ stepped xs ys 5 ∷ [] ≡ braid_step p xs ys) (λ x₀ x₁ x₂ x₃ x₄ x₅. refl) braid q) b
+
+-- six elements that are known one by one
+six_filled : (f : ℕ → ℕ) (xs : List ℕ) → length xs ≡ 6 → ((i : ℕ) → i < 6 → get_or xs i 0 ≡ f i) → xs ≡ f 0 ∷ f 1 ∷ f 2 ∷ f 3 ∷ f 4 ∷ f 5 ∷ []
+six_filled f =
+    six_by (λ xs. ((i : ℕ) → i < 6 → get_or xs i 0 ≡ f i) → xs ≡ f 0 ∷ f 1 ∷ f 2 ∷ f 3 ∷ f 4 ∷ f 5 ∷ [])
+    (λ x₀ x₁ x₂ x₃ x₄ x₅ h.
+    ap₂ ◌∷◌ (h 0 (omega arith)) (ap₂ ◌∷◌ (h 1 (omega arith)) (ap₂ ◌∷◌ (h 2 (omega arith)) (ap₂ ◌∷◌ (h 3 (omega arith)) (ap₂ ◌∷◌ (h 4 (omega arith)) (ap₂ ◌∷◌ (h 5 (omega arith)) refl))))))
+
+pub block_taken : (p : ℕ) (braid next : List ℕ) (b : List (List ℕ)) → length braid ≡ 6 → length next ≡ 6 → length b ≡ 6 → ((i : ℕ) → i < 6 → get_or next i 0 ≡ stepped p braid b i)
+    → next ≡ braid_step p braid b
+block_taken p braid next b q r s h = six_filled (stepped p braid b) next r h ∙ six_stepped p braid b q s

@@ -1,16 +1,20 @@
 -- The register after a run in parts, for any register constant p: two parts, any blocks, some bytes more, all bits at once.
 use mathlib.Core.Path.{◌≡◌, refl, sym, ap, ap₂, ◌∙◌}
-use mathlib.Core.List.{List, [], ◌∷◌, ◌++◌, foldl, flatten}
-use Prim.Native.Nat.{ℕ, suc, ◌+◌, ◌*◌, ◌-◌, ◌^◌, ◌≤◌, ◌<◌}
+use mathlib.Core.List.{List, [], ◌∷◌, ◌++◌, foldl, flatten, map}
+use Prim.Native.Nat.{ℕ, zero, suc, ◌+◌, ◌*◌, ◌/◌, ◌-◌, ◌^◌, ◌≤◌}
 use native.Mathlib.Omega.{arith}
 use lib.Bits.{bit_xor, xor_zero_r, xor_comm, xor_shifted}
-use lib.ListN.{length, get_or, take, drop, length-drop, drop_of_length-le, take-append-drop}
-use lib.Seq.{drop-drop, length-take-le}
-use Rattle.runs.proofs.Bytes.{drop-next, part_rest, bytes_take, bytes_drop}
+use lib.ListN.{length, take, drop, length-drop, take-append-drop}
+use lib.Seq.{length-take-le, take-add}
+use Rattle.std.specs.List.{fold}
+use Rattle.std.specs.Int.{from_le_bytes}
+use Rattle.std.specs.Simd.{first_chunks}
+use Rattle.std.proofs.Common.{w32}
+use Rattle.runs.proofs.Bytes.{bytes_take, bytes_drop}
 use Rattle.runs.specs.Runs.{Bytes}
 use Rattle.runs.specs.Number.{little_endian}
 use Rattle.checksum.specs.Crc.{shifts, byte_step, run, crc32_of}
-use Rattle.checksum.specs.Tables.{AfterBytes}
+use Rattle.checksum.specs.Braids.{run_words}
 use Rattle.checksum.specs.Claims.{CarriedOn}
 use Rattle.checksum.proofs.Xor.{xor_undo, xor_assoc}
 use Rattle.checksum.proofs.Linear.{shifts_add, shifts-sum, shifts-zeros}
@@ -40,20 +44,6 @@ crc32_append u v =
     ap (λ (x : ℕ). bit_xor x (2 ^ 32 - 1))
     (run-joined 0xEDB88320 (2 ^ 32 - 1) u v (xor_undo (run 0xEDB88320 (2 ^ 32 - 1) u) (2 ^ 32 - 1)) refl)
 
--- a part of a run, from a place to its end
-pub run_rest : (p c : ℕ) (u : List ℕ) (at : ℕ) {r : ℕ} → r ≡ run p c (take (length u - at) (drop at u)) → r ≡ run p c (drop at u)
-run_rest p c u at e = e ∙ ap (run p c) (part_rest u at)
-
-pub bytes_start : (p s : ℕ) (u : List ℕ) → AfterBytes p s u 0 s
-bytes_start p s u = (omega arith, refl)
-
--- n bytes more
-pub bytes_more : (p s : ℕ) (u : List ℕ) (i n c d : ℕ) → AfterBytes p s u i c → i + n ≤ length u → d ≡ run p c (take n (drop i u)) → AfterBytes p s u (i + n) d
-bytes_more p s u i n c d a h e = (
-  h,
-  ap₂ (run p) e (sym (drop-drop n i u)) ∙ sym (run_append p c (take n (drop i u)) (drop n (drop i u))) ∙ ap (run p c) (take-append-drop n (drop i u)) ∙ a.1,
-)
-
 -- the register after a run of bytes, as one number: all their bits leave at once
 pub run_number : (p c : ℕ) (u : List ℕ) → Bytes u → run p c u ≡ shifts p (8 * length u) (bit_xor c (little_endian u))
 unfolding run byte_step little_endian shifts
@@ -71,20 +61,43 @@ run_number p c (b ∷ u) h =
     joined : bit_xor (bit_xor c b) (little_endian u * 2 ^ 8) ≡ bit_xor c (little_endian u * 2 ^ 8 + b)
     joined = xor_assoc c b (little_endian u * 2 ^ 8) ∙ ap (bit_xor c) (xor_comm b (little_endian u * 2 ^ 8) ∙ xor_shifted (little_endian u) 8 b (h 0))
 
--- one byte more
-pub bytes_next : (p s : ℕ) (u : List ℕ) (i c d : ℕ) → AfterBytes p s u i c → i < length u → d ≡ shifts p 8 (bit_xor c (get_or u i 0)) → AfterBytes p s u (i + 1) d
-unfolding run byte_step
-bytes_next p s u i c d a h e = bytes_more p s u i 1 c d a (omega arith) (e ∙ sym (ap (λ (l : List ℕ). run p c (take 1 l)) (drop-next u i h)))
-
--- a word more
-pub bytes_word : (p s : ℕ) (u : List ℕ) (i c d w : ℕ) → AfterBytes p s u i c → Bytes u → i + 4 ≤ length u → w ≡ little_endian (take 4 (drop i u))
-    → d ≡ shifts p 32 (bit_xor c w) → AfterBytes p s u (i + 4) d
-bytes_word p s u i c d w a b h e f =
-    let part = take 4 (drop i u) in
-    let long : length part ≡ 4 = length-take-le 4 (drop i u) (simp length-drop (omega arith)) in
-    bytes_more p s u i 4 c d a h
-    (f ∙ ap₂ (λ (n x : ℕ). shifts p (8 * n) (bit_xor c x)) (sym long) e ∙ sym (run_number p c part (bytes_take 4 (drop i u) (bytes_drop i u b))))
-
-pub bytes_end : (p s : ℕ) (u : List ℕ) (i c : ℕ) → AfterBytes p s u i c → length u ≤ i → c ≡ run p s u
+-- the register along a run of bytes, as a fold
+pub run_fold : (p c : ℕ) (u : List ℕ) → fold (byte_step p) c u ≡ run p c u
 unfolding run
-bytes_end p s u i c a h = sym (ap (run p c) (drop_of_length-le u h)) ∙ a.1
+run_fold p c [] = refl
+run_fold p c (b ∷ u) = run_fold p (byte_step p c b) u
+
+pub words_fold : (p c : ℕ) (ws : List (List ℕ)) → fold (λ c b. shifts p 32 (bit_xor c (little_endian b))) c ws ≡ run_words p c (map little_endian ws)
+unfolding run_words
+words_fold p c [] = refl
+words_fold p c (w ∷ ws) = words_fold p (shifts p 32 (bit_xor c (little_endian w))) ws
+
+-- a run of whole words, word by word
+pub run_of_words : (p c k : ℕ) (u : List ℕ) → Bytes u → k * 4 ≤ length u → run_words p c (map little_endian (first_chunks 4 k u)) ≡ run p c (take (k * 4) u)
+unfolding run_words run
+run_of_words p c zero u h l = refl
+run_of_words p c (suc k) u h l =
+    let part = take 4 u in
+    let four : suc k * 4 ≡ 4 + k * 4 = omega arith in
+    let long : length part ≡ 4 = length-take-le 4 u (omega arith) in
+    run_of_words p (shifts p 32 (bit_xor c (little_endian part))) k (drop 4 u) (bytes_drop 4 u h) (simp length-drop (omega arith))
+    ∙ ap (λ (x : ℕ). run p x (take (k * 4) (drop 4 u)))
+    (ap (λ (n : ℕ). shifts p (8 * n) (bit_xor c (little_endian part))) (sym long) ∙ sym (run_number p c part (bytes_take 4 u h)))
+    ∙ sym (run_append p c part (take (k * 4) (drop 4 u))) ∙ ap (run p c) (sym (take-add 4 (k * 4) u) ∙ ap (λ (n : ℕ). take n u) (sym four))
+
+-- a run as the words that it has and the bytes behind them
+pub run_in_words : (p c : ℕ) (u : List ℕ) → Bytes u → run p (run_words p c (map little_endian (first_chunks 4 (length u / 4) u))) (drop (length u / 4 * 4) u) ≡ run p c u
+run_in_words p c u h =
+    let n = length u / 4 in
+    ap (λ (x : ℕ). run p x (drop (n * 4) u)) (run_of_words p c n u h (omega arith)) ∙ sym (run_append p c (take (n * 4) u) (drop (n * 4) u))
+    ∙ ap (run p c) (take-append-drop (n * 4) u)
+
+-- the library's number of four bytes
+pub four_bytes : (b : List ℕ) → length b ≡ 4 → from_le_bytes w32 b ≡ little_endian b
+unfolding little_endian
+four_bytes (v ∷ x ∷ y ∷ z ∷ []) e = omega arith
+four_bytes [] e = absurd (omega (arith, e))
+four_bytes (v ∷ []) e = absurd (omega (arith, e))
+four_bytes (v ∷ x ∷ []) e = absurd (omega (arith, e))
+four_bytes (v ∷ x ∷ y ∷ []) e = absurd (omega (arith, e))
+four_bytes (v ∷ x ∷ y ∷ z ∷ t ∷ b) e = absurd (omega (arith, e))

@@ -3,17 +3,21 @@
 use mathlib.Core.Path.{◌≡◌, refl, ap, ap₂, sym, ◌∙◌, subst}
 use mathlib.Core.Bool.{Bool, true, false}
 use mathlib.Core.List.{List, [], ◌∷◌, ◌++◌, map}
-use Prim.Native.Nat.{ℕ, zero, suc, ◌+◌, ◌*◌, ◌-◌, ◌/◌, ◌%◌, ◌^◌, ◌<◌}
-use native.Mathlib.Nat.{zero-add, zero-mul, one-mul, suc-mul, le_of_suc-le-suc, not-suc-le-zero}
+use Prim.Native.Nat.{ℕ, zero, suc, ◌+◌, ◌*◌, ◌-◌, ◌/◌, ◌%◌, ◌^◌, ◌<◌, ◌≤◌}
+use native.Mathlib.Nat.{zero-mul, one-mul, suc-mul, add-mul, mul-suc, mul-zero, pow-zero, mod-lt, le_of_suc-le-suc, not-suc-le-zero}
 use native.Mathlib.Omega.{arith}
-use lib.Bits.{bit_xor, xor_shifted}
+use lib.Bits.{bit_xor, xor_zero_l, xor_zero_r, xor_shifted}
 use lib.Dec.{ltb}
-use lib.ListN.{length, get_or, length-append, length-map, get_or-append}
+use lib.ListN.{length, get_or, take, drop, length-append, length-map, get_or-append}
 use lib.Seq.{get_or-append-add}
+use lib.Pow.{pow_pos}
+use Rattle.std.proofs.Common.{get_or-drop, get_or-take, div-lt_iff_lt-mul}
+use Rattle.std.proofs.lemmas.Nat.{mul-le, pow-add}
 use borrow.Author.Tests.{ltb-true, ltb-false}
 use Rattle.runs.proofs.Bytes.{map_at}
 use Rattle.checksum.specs.Crc.{shifts}
 use Rattle.checksum.specs.Tables.{Rows}
+use Rattle.checksum.proofs.Xor.{xor_assoc}
 use Rattle.checksum.proofs.Linear.{shifts_add, shifts-sum, shifts_split, shifts_none}
 
 -- what the register of each single bit is once n bits have left it, the highest of w bits first
@@ -27,9 +31,9 @@ row [] = 0 ∷ []
 row (b ∷ bs) = row bs ++ map (bit_xor b) (row bs)
 
 -- a table of k rows
-unfoldable pub laid : ℕ → ℕ → ℕ → ℕ → List ℕ
+unfoldable pub laid : ℕ → ℕ → ℕ → ℕ → List (List ℕ)
 laid p w zero n = []
-laid p w (suc k) n = row (bases p n w) ++ laid p w k (n - w)
+laid p w (suc k) n = row (bases p n w) ∷ laid p w k (n - w)
 
 row-length : (p n w : ℕ) → length (row (bases p n w)) ≡ 2 ^ w
 unfolding row bases
@@ -82,17 +86,20 @@ laid-rows : (p w k n : ℕ) → Rows p w k n (laid p w k n)
 unfolding laid Rows
 laid-rows p w zero n r y h i = absurd (not-suc-le-zero h)
 laid-rows p w (suc k) n zero y h i =
-    let l = row (bases p n w) in
-    let first : zero * 2 ^ w + y ≡ y = simp (zero-mul, zero-add) in
     let all : n - zero * w ≡ n = simp zero-mul (omega arith) in
-    rw (first, all) (get_or-append l (laid p w k (n - w)) 0 y (rw (row-length p n w) i) ∙ row_at p n w y i)
+    rw all (row_at p n w y i)
 laid-rows p w (suc k) n (suc r) y h i =
-    let l = row (bases p n w) in
-    let behind : suc r * 2 ^ w + y ≡ length l + (r * 2 ^ w + y) = rw (row-length p n w) (simp suc-mul (omega arith)) in
     let fewer : n - suc r * w ≡ n - w - r * w = simp suc-mul (omega arith) in
-    rw (behind, fewer) (get_or-append-add l (laid p w k (n - w)) (r * 2 ^ w + y) 0 ∙ laid-rows p w k (n - w) r y (le_of_suc-le-suc h) i)
+    rw fewer (laid-rows p w k (n - w) r y (le_of_suc-le-suc h) i)
 
-pub laid_out : (p w k n : ℕ) {t : List ℕ} → t ≡ laid p w k n → Rows p w k n t
+-- some rows of a table, from row m on, are the rows of fewer bits
+pub rows_part : (p w k n m : ℕ) (t : List (List ℕ)) → Rows p w (m + k) n t → Rows p w k (n - m * w) (take k (drop m t))
+unfolding Rows
+rows_part p w k n m t rule r y h i =
+    let fewer : n - m * w - r * w ≡ n - (m + r) * w = rw (add-mul m r w) (omega arith) in
+    rw (get_or-take k (drop m t) r [] h, get_or-drop m t r [], fewer) (rule (m + r) y (omega arith) i)
+
+pub laid_out : (p w k n : ℕ) {t : List (List ℕ)} → t ≡ laid p w k n → Rows p w k n t
 laid_out p w k n e = subst (Rows p w k n) (sym e) (laid-rows p w k n)
 
 -- of w + j bits that leave, what the lowest w give and what those above them give
@@ -100,3 +107,44 @@ pub low_bits : (p w j x : ℕ) {a b : ℕ} → a ≡ shifts p (w + j) (x % 2 ^ w
 low_bits p w j x e f =
     ap₂ bit_xor (e ∙ shifts_add p w j (x % 2 ^ w)) f ∙ sym (shifts-sum p j (shifts p w (x % 2 ^ w)) (x / 2 ^ w)) ∙ ap (shifts p j) (shifts_split p w x)
     ∙ sym (shifts_add p w j x)
+
+-- of n bits that leave, those of the first i rows have given all, and rest is what stands above them
+abbrev pub RowsDone : (p w n c i all rest : ℕ) → Type 0
+RowsDone p w n c i all rest = bit_xor all (shifts p (n - i * w) rest) ≡ shifts p n c
+
+pub row_start : (p w n c : ℕ) → RowsDone p w n c 0 0 c
+row_start p w n c = let all : n - 0 * w ≡ n = simp zero-mul (omega arith) in rw all (xor_zero_l (shifts p n c))
+
+pub row_step : (p w n c i all rest : ℕ) {entry : ℕ} → RowsDone p w n c i all rest → (i + 1) * w ≤ n → entry ≡ shifts p (n - i * w) (rest % 2 ^ w)
+    → RowsDone p w n c (i + 1) (bit_xor all entry) (rest / 2 ^ w)
+row_step p w n c i all rest {entry} done h e =
+    let j = n - (i + 1) * w in
+    let next : (i + 1) * w ≡ i * w + w = add-mul i 1 w ∙ ap (λ (m : ℕ). i * w + m) (one-mul w) in
+    let more : n - i * w ≡ w + j = omega arith in
+    let both : bit_xor entry (shifts p j (rest / 2 ^ w)) ≡ shifts p (w + j) rest = low_bits p w j rest (e ∙ ap (λ (m : ℕ). shifts p m (rest % 2 ^ w)) more) refl in
+    xor_assoc all entry (shifts p j (rest / 2 ^ w)) ∙ ap (bit_xor all) (both ∙ ap (λ (m : ℕ). shifts p m rest) (sym more)) ∙ done
+
+rest_lt : (w k i rest : ℕ) → i < k → rest < 2 ^ (w * (k - i)) → rest / 2 ^ w < 2 ^ (w * (k - (i + 1)))
+rest_lt w k i rest h l =
+    let left : k - i ≡ suc (k - (i + 1)) = omega arith in
+    let more : w * suc (k - (i + 1)) ≡ w * (k - (i + 1)) + w = mul-suc w (k - (i + 1)) in
+    (div-lt_iff_lt-mul (pow_pos w)).1 (rw (left, more, pow-add) at l)
+
+-- a row more
+pub row_turn : (p w n c i all rest : ℕ) (t : List (List ℕ)) → length t * w ≤ n → Rows p w (length t) n t → i < length t
+    → (rest < 2 ^ (w * (length t - i))) × RowsDone p w n c i all rest
+    → (rest / 2 ^ w < 2 ^ (w * (length t - (i + 1)))) × RowsDone p w n c (i + 1) (bit_xor all (get_or (get_or t i []) (rest % 2 ^ w) 0)) (rest / 2 ^ w)
+unfolding Rows
+row_turn p w n c i all rest t room rule h (l, done) = (
+  rest_lt w (length t) i rest h l,
+  row_step p w n c i all rest done (omega (arith, mul-le (i + 1) w (length t) w (omega arith) (omega arith)))
+      (rule i (rest % 2 ^ w) h (mod-lt rest (pow_pos w))),
+)
+
+-- no row is left
+pub rows_end : (p w n c k i all rest : ℕ) → k ≤ i → (rest < 2 ^ (w * (k - i))) × RowsDone p w n c i all rest → all ≡ shifts p n c
+rows_end p w n c k i all rest h (l, done) =
+    let left : k - i ≡ 0 = omega arith in
+    let none : rest < 1 = rw (left, mul-zero, pow-zero) at l in
+    let zero : rest ≡ 0 = omega arith in
+    sym (ap (bit_xor all) (ap (shifts p (n - i * w)) zero ∙ shifts_none p (n - i * w)) ∙ xor_zero_r all) ∙ done

@@ -2,12 +2,12 @@
 use Rattle.std.specs.Prelude.{ℕ, ◌*◌, ◌≡◌, List, [], ◌∷◌, length}
 use Rattle.std.specs.Int.Bits.{bit_xor}
 use Rattle.checksum.specs.Crc.{shifts}
-use Rattle.checksum.specs.Tables.{AfterBytes}
-use Rattle.checksum.specs.declared.Braid.{Braid}
 
--- the six registers of the code, the first to take a word first
-abbrev pub registers_of : Braid → List ℕ
-registers_of r = r.a ∷ r.b ∷ r.c ∷ r.d ∷ r.e ∷ r.f ∷ []
+-- words xored, one by one
+unfoldable pub both : List ℕ → List ℕ → List ℕ
+both [] ys = ys
+both (x ∷ xs) [] = x ∷ xs
+both (x ∷ xs) (y ∷ ys) = bit_xor x y ∷ both xs ys
 
 -- the register after words of 32 bits
 unfoldable pub run_words : ℕ → ℕ → List ℕ → ℕ
@@ -17,7 +17,3 @@ run_words p c (w ∷ ws) = run_words p (shifts p 32 (bit_xor c w)) ws
 -- a braid stands for the register c: as words, from 0, its registers lead to where c is led by as many words of zeros
 unfoldable pub StandsFor : ℕ → List ℕ → ℕ → Type 0
 StandsFor p braid c = run_words p 0 braid ≡ shifts p (32 * length braid) c
-
--- a braid stands for the register after the first i bytes of the run u, from the start s
-abbrev pub Braided : ℕ → ℕ → List ℕ → ℕ → List ℕ → Type 0
-Braided p s u i braid = (c : ℕ) × AfterBytes p s u i c × StandsFor p braid c

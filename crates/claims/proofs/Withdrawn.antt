@@ -8,7 +8,11 @@ use lib.Dec.{eqb, leb, ltb}
 use lib.IntN.{ℤ}
 use lib.ListN.{length, take, drop}
 use borrow.Author.Tests.{eqb-false}
+use Rattle.std.specs.Prelude.{Some, None, Result, Ok, Err}
 use Rattle.framing.specs.Answer.{Outcome, done, refused, fault_of, stored_at}
+use Rattle.framing.specs.Number.{number_of}
+use Rattle.framing.specs.declared.refusal.Refusal.{Refusal}
+use Rattle.framing.specs.declared.refusal.Refusal.TheVariants as why
 use Rattle.framing.specs.Tests.{write_fault, call_fault}
 use Rattle.framing.specs.Link.{Link}
 use Rattle.framing.specs.Refusals.{is_in}
@@ -19,9 +23,9 @@ use Rattle.packing.specs.Unpacked.{unpacked}
 use Rattle.packing.specs.Contract.{stored_first, unpacked_in}
 use Rattle.record.specs.Form.{signed_of, kind_of, count_of, well_formed}
 use Rattle.record.specs.Fares.{Signedness, unsigned_fares, signed_fares, same, fare_at, writable, record_bytes}
-use Rattle.record.specs.Answers.{copying, reading, writing, asked_unsigned, asked_signed, is_record_of, viewing}
-use Rattle.record.specs.declared.Element.{Element}
-use Rattle.record.specs.declared.Element.TheVariants as element
+use Rattle.record.specs.Answers.{copying, reading, writing, outcomes_of, is_record_of, viewing}
+use Rattle.record.specs.declared.fare.Element.{Element}
+use Rattle.record.specs.declared.fare.Element.TheVariants as element
 use Rattle.gate.specs.Asking.{Exchange, Step, Asked, known, start, tick, arrival, wait_over, sends, ended, again, acts}
 use Rattle.gate.specs.Asking as Asking
 use Rattle.gate.specs.Chain.{Hop}
@@ -126,19 +130,38 @@ module _ {A : Type 0} (F : Signedness A) where
             (λ _. fine (refused 3) refl) (λ _ _. fine (refused 2) refl) (λ _ _. fine (done (length (record_bytes F kind address fares))) refl);
       }
 
-asked_unsigned_never : (e : Element) → Fine (asked_unsigned e)
-asked_unsigned_never (element.Unsigned n) = fine (done n) refl
-asked_unsigned_never (element.Signed z) = fine (refused 17) refl
-asked_unsigned_never element.UnsignedAbsent = fine (refused 18) refl
-asked_unsigned_never element.SignedAbsent = fine (refused 17) refl
-asked_unsigned_never element.Malformed = fine (refused 16) refl
+-- no refusal has the number
+not_withdrawn : (r : Refusal) → eqb (number_of r) withdrawn_number ≡ false
+not_withdrawn why.StoreShort = refl
+not_withdrawn why.OutputShort = refl
+not_withdrawn why.Unsendable = refl
+not_withdrawn why.NewStart = refl
+not_withdrawn why.TooLong = refl
+not_withdrawn why.TooShort = refl
+not_withdrawn why.WrongCode = refl
+not_withdrawn why.WrongCheck = refl
+not_withdrawn why.WrongField = refl
+not_withdrawn why.WrongLength = refl
+not_withdrawn why.UnknownState = refl
+not_withdrawn why.BadlyPacked = refl
+not_withdrawn why.Busy = refl
+not_withdrawn why.NoStep = refl
+not_withdrawn why.Malformed = refl
+not_withdrawn why.OtherSign = refl
+not_withdrawn why.NoElement = refl
+not_withdrawn why.OutsideProfile = refl
 
-asked_signed_never : (e : Element) → Fine (asked_signed e)
-asked_signed_never (element.Unsigned n) = fine (refused 17) refl
-asked_signed_never (element.Signed z) = fine (done z) refl
-asked_signed_never element.UnsignedAbsent = fine (refused 17) refl
-asked_signed_never element.SignedAbsent = fine (refused 18) refl
-asked_signed_never element.Malformed = fine (refused 16) refl
+asked_unsigned_never : (e : Result Element Refusal) → Fine (outcomes_of e).0
+asked_unsigned_never (Ok (element.Unsigned (Some n))) = fine (done n) refl
+asked_unsigned_never (Ok (element.Unsigned None)) = fine {A = ℕ} (refused 18) refl
+asked_unsigned_never (Ok (element.Signed z)) = fine {A = ℕ} (refused 17) refl
+asked_unsigned_never (Err r) = fine {A = ℕ} (refused (number_of r)) (not_withdrawn r)
+
+asked_signed_never : (e : Result Element Refusal) → Fine (outcomes_of e).1
+asked_signed_never (Ok (element.Unsigned n)) = fine {A = ℤ} (refused 17) refl
+asked_signed_never (Ok (element.Signed (Some z))) = fine (done z) refl
+asked_signed_never (Ok (element.Signed None)) = fine {A = ℤ} (refused 18) refl
+asked_signed_never (Err r) = fine {A = ℤ} (refused (number_of r)) (not_withdrawn r)
 
 view_never : ViewNever withdrawn_number
 unfolding viewing

@@ -1,14 +1,15 @@
 -- A number that was withdrawn is given by no call. The calls from C and the letter of a listing are claimed in host and lister.
-use Rattle.std.specs.Prelude.{ℕ, ◌≡◌, Bool, List}
+use Rattle.std.specs.Prelude.{ℕ, ◌≡◌, Bool, List, Result}
 use Rattle.framing.specs.Answer.{refused, stored_at}
 use Rattle.framing.specs.Tests.{write_fault, call_fault}
+use Rattle.framing.specs.declared.refusal.Refusal.{Refusal}
 use Rattle.framing.specs.Writer.{writes}
 use Rattle.framing.specs.Link.{Link, write_on}
 use Rattle.framing.specs.Refusals.{StreamGives, CallGives, ReadGives}
 use Rattle.packing.specs.Contract.{unpacked_in}
 use Rattle.record.specs.Fares.{Signedness}
-use Rattle.record.specs.Answers.{copying, reading, writing, asked_unsigned, asked_signed, viewing}
-use Rattle.record.specs.declared.Element.{Element}
+use Rattle.record.specs.Answers.{copying, reading, writing, outcomes_of, viewing}
+use Rattle.record.specs.declared.fare.Element.{Element}
 use Rattle.gate.specs.Asking.{Exchange, Step, asks}
 use Rattle.gate.specs.Asking as Asking
 use Rattle.gate.specs.Chain.{steps_down, steps_up}
@@ -48,8 +49,8 @@ pub record RecordNever {A : Type 0} (F : Signedness A) (n : ℕ) : Type 0 where
 pub record ViewNever (n : ℕ) : Type 0 where
   pub views_unsigned : (payload : List ℕ) (kind count i : ℕ) → (viewing payload kind count i).0 ≡ refused n → ⊥
   pub views_signed : (payload : List ℕ) (kind count i : ℕ) → (viewing payload kind count i).1 ≡ refused n → ⊥
-  pub asked_unsigned_lem : (e : Element) → asked_unsigned e ≡ refused n → ⊥
-  pub asked_signed_lem : (e : Element) → asked_signed e ≡ refused n → ⊥
+  pub asked_unsigned_lem : (e : Result Element Refusal) → (outcomes_of e).0 ≡ refused n → ⊥
+  pub asked_signed_lem : (e : Result Element Refusal) → (outcomes_of e).1 ≡ refused n → ⊥
 
 -- the gate exchange
 pub record GateNever (n : ℕ) : Type 0 where

@@ -6,19 +6,13 @@ ghost use Rattle.std.proofs.lemmas.List.Edits.{sets};
 ghost use Rattle.framing.specs.Answer.{outcome_of, stored_at};
 ghost use Rattle.decimal.specs.Decimal.{decimal};
 
-use framing::{Answer, refusal};
+use framing::{Answer, Refusal};
 
 // How many decimal digits a number has.
 pub fn digit_count(n: u64) -> usize
     ensures { (result ≡ length (decimal n)) × (result ≤ 20) }
 {
-    let mut digits = 1;
-    let mut high = n;
-    while 10 <= high {
-        high = high / 10;
-        digits += 1;
-    }
-    digits
+    n.checked_ilog10().map_or(1, |k| k as usize + 1)
 }
 
 // Stores the digits of a number, so many, the last one first.
@@ -26,14 +20,11 @@ fn put_digits(out: &mut [u8], at: usize, n: u64, digits: usize)
     requires { (digits ≡ length (decimal n)) × (at + digits ≤ length out.old) }
     ensures { out.new ≡ sets out.old at (decimal n) }
 {
-    let mut place = at + digits - 1;
     let mut rest = n;
-    while 10 <= rest {
+    for place in (at..at + digits).rev() {
         out[place] = b'0' + (rest % 10) as u8;
-        rest = rest / 10;
-        place -= 1;
+        rest /= 10;
     }
-    out[place] = b'0' + rest as u8;
 }
 
 // Stores a number in decimal from a place on.
@@ -42,8 +33,8 @@ pub fn put(out: &mut [u8], at: usize, n: u64) -> Answer
 {
     let digits = digit_count(n);
     if !runs::fits(at, digits, out.len()) {
-        return Answer::Refused(refusal::OUTPUT_SHORT);
+        return Err(Refusal::OutputShort);
     }
     put_digits(out, at, n, digits);
-    Answer::Done(digits)
+    Ok(digits)
 }

@@ -1,4 +1,4 @@
--- Of the code: `Loops` has the loops over an order's data, `Writing` the data that the writer hands on, `Places` the three places, `Serving` what the
+-- Of the code: `Loops` has what an order's data are read by, `Writing` the data that the writer hands on, `Places` the three places, `Serving` what the
 -- end's functions answer. Of the definitions: `Profile` has orders and messages, each way; `Orders` their frames, written and read; `Numbers` the
 -- numbers of refusals; `Served` what an order does; `Repeats` the same frame again; `Shows` what is shown after any calls; `Examples` document 000's
 -- second example. `Theorems` has the claims.

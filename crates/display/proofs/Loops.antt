@@ -1,36 +1,28 @@
--- The loops over the data of an order: what is still to be looked at gives the whole.
+-- The data of an order: the word that they begin with, and the value of their digits.
 use Prim.Native.Nat.{ℕ, ◌+◌, ◌-◌, ◌*◌, ◌≤◌, ◌<◌}
 use mathlib.Core.Path.{◌≡◌, refl, ap, ap₂, sym, ◌∙◌}
-use mathlib.Core.Bool.{Bool, true, false, ◌&&◌, false≢true}
+use mathlib.Core.Bool.{Bool, true, ◌&&◌, false≢true}
 use mathlib.Core.List.{List, [], ◌∷◌, ◌++◌}
 use native.Mathlib.Omega.{arith}
 use lib.Dec.{eqb}
-use lib.ListN.{length, get_or, drop, drop_of_length-le}
-use borrow.Author.Tests.{eq-eqb, ne_eqb, eqb-true}
-use Rattle.runs.specs.Runs.{between}
+use Rattle.std.specs.Prelude.{nat_eq}
+use lib.Pointwise.{pointwise}
+use lib.ListN.{length, get_or, take, drop, drop_of_length-le}
+use borrow.Author.Tests.{eq-eqb, eqb-true}
 use Rattle.runs.proofs.Bytes.{drop-next}
 use Rattle.runs.proofs.Cases.{and_both}
 use Rattle.decimal.specs.Decimal.{are_digits, value_from, value_of}
 use Rattle.decimal.proofs.Value.{digit_first, value_above, value_below}
-use Rattle.display.specs.Profile.{word, most_digits, begins_with, is_text}
+use Rattle.display.specs.Profile.{most_digits, begins_with}
 
 -- ---- a run that begins with a word
 
-pub begins_short : (w u : List ℕ) → length u < length w → begins_with w u ≡ false
+-- as the library compares it
+pub begins_starts : (w u : List ℕ) → pointwise nat_eq w (take (length w) u) ≡ begins_with w u
 unfolding begins_with
-begins_short [] u h = absurd (omega arith)
-begins_short (a ∷ w) [] h = refl
-begins_short (a ∷ w) (b ∷ u) h = rw (begins_short w u (omega arith)) (and_none (eqb a b))
-  where
-    and_none : (t : Bool) → t && false ≡ false
-    and_none true = refl
-    and_none false = refl
-
-pub begins_long : (w u : List ℕ) → begins_with w u ≡ true → length w ≤ length u
-unfolding begins_with
-begins_long [] u h = omega arith
-begins_long (a ∷ w) [] h = absurd (false≢true h)
-begins_long (a ∷ w) (b ∷ u) h = omega (arith, begins_long w u (and_both (eqb a b) (begins_with w u) h).1)
+begins_starts [] u = refl
+begins_starts (a ∷ w) [] = refl
+begins_starts (a ∷ w) (b ∷ u) = ap (λ (t : Bool). eqb a b && t) (begins_starts w u)
 
 pub begins_is : (w u : List ℕ) → begins_with w u ≡ true → u ≡ w ++ drop (length w) u
 unfolding begins_with
@@ -44,38 +36,6 @@ pub begins_append : (w u : List ℕ) → begins_with w (w ++ u) ≡ true
 unfolding begins_with
 begins_append [] u = refl
 begins_append (a ∷ w) u = rw (eq-eqb a a refl) (begins_append w u)
-
-module _ (w u : List ℕ) (i : ℕ) where
-  pub begins_next : i < length w → i < length u → get_or w i 0 ≡ get_or u i 0 → begins_with (drop i w) (drop i u) ≡ begins_with (drop (i + 1) w) (drop (i + 1) u)
-  unfolding begins_with
-  begins_next h k e = rw (drop-next w i h, drop-next u i k, eq-eqb (get_or w i 0) (get_or u i 0) e)
-
-  pub begins_differ : i < length w → i < length u → (get_or w i 0 ≡ get_or u i 0 → ⊥) → begins_with (drop i w) (drop i u) ≡ false
-  unfolding begins_with
-  begins_differ h k e = rw (drop-next w i h, drop-next u i k, ne_eqb (get_or w i 0) (get_or u i 0) e)
-
-  pub begins_end : length w ≤ i → begins_with (drop i w) (drop i u) ≡ true
-  unfolding begins_with
-  begins_end h = rw (drop_of_length-le w h)
-
--- data that do not
-pub no_text : (u : List ℕ) → begins_with word u ≡ false → false ≡ is_text u
-no_text u h = rw h
-
--- ---- digits
-
-module _ (u : List ℕ) (i : ℕ) where
-  pub digits_next : i < length u → between 48 57 (get_or u i 0) ≡ true → are_digits (drop i u) ≡ are_digits (drop (i + 1) u)
-  unfolding are_digits
-  digits_next h e = rw (drop-next u i h, e)
-
-  pub digits_differ : i < length u → between 48 57 (get_or u i 0) ≡ false → are_digits (drop i u) ≡ false
-  unfolding are_digits
-  digits_differ h e = rw (drop-next u i h, e)
-
-  pub digits_end : length u ≤ i → are_digits (drop i u) ≡ true
-  unfolding are_digits
-  digits_end h = rw (drop_of_length-le u h)
 
 -- ---- their value
 

@@ -1,7 +1,6 @@
 -- The three places, one by one, are the last three of the digits.
 use Prim.Native.Nat.{ℕ, suc, ◌+◌, ◌-◌, ◌/◌, ◌%◌, ◌^◌, ◌≤◌, ◌<◌}
 use mathlib.Core.Path.{◌≡◌, refl, ap, sym, ◌∙◌}
-use mathlib.Core.Bool.{Bool, cond}
 use mathlib.Core.List.{List, [], ◌∷◌, ◌++◌, append_assoc}
 use native.Mathlib.Omega.{arith}
 use lib.Dec.{lit<}
@@ -28,13 +27,6 @@ last_digit n f =
     by_ltb (λ (x : ℕ). (p : List ℕ) × (decimal n ≡ p ++ ((48 + n % 10) ∷ []))) n 10 {x = 0} {y = 0}
     (λ h. let e : 48 + n ≡ 48 + n % 10 = omega arith in ([], decimal-small n h ∙ ap (λ (x : ℕ). x ∷ []) e))
     (λ h. (decimal (n / 10), decimal_large n h f))
-
--- the place of a unit that the value does not reach, and of one that it does
-pub place_space : (v unit : ℕ) → v < unit → 32 ≡ place_of v unit
-place_space v unit h = sym (ap (λ (t : Bool). cond t 32 (48 + v / unit % 10)) (lt-ltb v unit h))
-
-pub place_digit : (v unit : ℕ) → unit ≤ v → 48 + v / unit % 10 ≡ place_of v unit
-place_digit v unit h = sym (ap (λ (t : Bool). cond t 32 (48 + v / unit % 10)) (le-ltb v unit h))
 
 abbrev Shows : ℕ → Type 0
 Shows v = place_of v 100 ∷ place_of v 10 ∷ (48 + v % 10) ∷ [] ≡ last_three (32 ∷ 32 ∷ 32 ∷ decimal v)

@@ -11,12 +11,12 @@ ghost use Rattle.pcs.specs.Contract.{with_data};
 ghost use Rattle.decimal.specs.Decimal.{are_digits, value_of};
 ghost use Rattle.display.specs.Profile.{most_digits, in_profile, order_ok, order_frame};
 ghost use Rattle.display.specs.Reading.{judged, reading};
-ghost use Rattle.display.specs.End.{shown_of, fresh_display, is_repeat, taking, answering, served, takes};
-ghost use Rattle.display.specs.Contract.{reading_of, taken_of};
+ghost use Rattle.display.specs.End.{shown_of, fresh_display, is_repeat, taking, served, takes};
+ghost use Rattle.display.specs.Contract.{reply_of, taken_of};
 ghost use Rattle.display.specs.Steps.{place_of};
 
-use framing::{Answer, refusal};
-use pcs::{Message, Whole};
+use framing::{Answer, Link, Refusal};
+use pcs::{Message, Pcs};
 
 // The largest value that an order carries.
 const LARGEST: u32 = 99999999;
@@ -45,15 +45,8 @@ pub struct Order {
     pub value: u32,
 }
 
-// What a run is read as: an order, or the number of a refusal.
-#[derive(Clone, Copy)]
-pub enum Reading {
-    Accepted(Order),
-    Refused(u8),
-}
-
 // The display's end: its own address, whether an order was taken, sender and number of the last one taken, and the three places shown. Any values
-// may stand in it.
+// may stand in it, and `take` promises what stands there after, also in one that has taken none: an Option would leave out some of them.
 #[derive(Clone, Copy)]
 pub struct Display {
     pub own: u8,
@@ -63,18 +56,10 @@ pub struct Display {
     pub places: [u8; 3],
 }
 
-// What a frame is replied with: nothing, an answer of so many bytes, or the number of a refusal.
-#[derive(Clone, Copy)]
-pub enum Reply {
-    Nothing,
-    Send(usize),
-    Refused(u8),
-}
-
-// The reply, and the display after.
+// What a frame is replied with, which is nothing, an answer of so many bytes, or a refusal, and the display after.
 #[derive(Clone, Copy)]
 pub struct Taken {
-    pub reply: Reply,
+    pub reply: Result<Option<usize>, Refusal>,
     pub display: Display,
 }
 
@@ -84,11 +69,10 @@ pub fn write(value: u32, receiver: u8, sender: u8, number: u8, out: &mut [u8]) -
         (record { receiver = receiver; sender = sender; number = number; value = value }) out.old }
 {
     if LARGEST < value {
-        return Answer::Refused(refusal::UNSENDABLE);
+        return Err(Refusal::Unsendable);
     }
     let mut data = *b"CLCSH        ";
-    let digits = decimal::put(&mut data, 5, value as u64);
-    let end = 5 + framing::count_of(digits);
+    let end = 5 + decimal::put(&mut data, 5, u64::from(value))?;
     pcs::write(
         receiver,
         sender,
@@ -97,7 +81,7 @@ pub fn write(value: u32, receiver: u8, sender: u8, number: u8, out: &mut [u8]) -
         PORT,
         PORT,
         CRC,
-        &data[0..end],
+        &data[..end],
         out,
     )
 }
@@ -106,19 +90,11 @@ pub fn write(value: u32, receiver: u8, sender: u8, number: u8, out: &mut [u8]) -
 fn in_profile(message: Message, data: &[u8]) -> bool
     ensures { result ≡ in_profile (with_data message «data».now) }
 {
-    if message.kind != ORDER {
-        return false;
-    }
-    if message.sender_port != PORT {
-        return false;
-    }
-    if message.receiver_port != PORT {
-        return false;
-    }
-    if message.crc {
-        return false;
-    }
-    text::is_text(data)
+    message.kind == ORDER
+        && message.sender_port == PORT
+        && message.receiver_port == PORT
+        && !message.crc
+        && text::is_text(data)
 }
 
 // The number that at most 8 digits stand for.
@@ -126,24 +102,21 @@ fn value_of(digits: &[u8]) -> u32
     requires { (are_digits digits.now ≡ true) × (length digits.now ≤ most_digits) }
     ensures { result ≡ value_of digits.now }
 {
-    let mut value: u32 = 0;
-    let mut i = 0;
-    while i < digits.len() {
-        let digit = digits[i] - b'0';
-        value = value * 10 + digit as u32;
-        i += 1;
+    let mut value = 0;
+    for digit in digits {
+        value = value * 10 + u32::from(*digit - b'0');
     }
     value
 }
 
 // What a message with these data is read as.
-fn judge(message: Message, data: &[u8]) -> Reading
-    ensures { reading_of result ≡ judged (with_data message «data».now) }
+fn judge(message: Message, data: &[u8]) -> Result<Order, Refusal>
+    ensures { outcome_of result ≡ judged (with_data message «data».now) }
 {
     if !in_profile(message, data) {
-        return Reading::Refused(refusal::OUTSIDE_PROFILE);
+        return Err(Refusal::OutsideProfile);
     }
-    Reading::Accepted(Order {
+    Ok(Order {
         receiver: message.receiver,
         sender: message.sender,
         number: message.number,
@@ -152,14 +125,11 @@ fn judge(message: Message, data: &[u8]) -> Reading
 }
 
 // Reads a run that is to be one whole frame of the profile.
-pub fn read(run: &[u8], store: &mut [u8]) -> Reading
-    ensures { (reading_of result, store.new) ≡ reading run.now store.old }
+pub fn read(run: &[u8], store: &mut [u8]) -> Result<Order, Refusal>
+    ensures { (outcome_of result, store.new) ≡ reading run.now store.old }
 {
-    let got = pcs::read(run, store);
-    match got {
-        Whole::Refused(fault) => Reading::Refused(fault),
-        Whole::Accepted(message) => judge(message, pcs::data(store, message)),
-    }
+    let message = Pcs::read(run, store)?;
+    judge(message, Pcs::data(store, message))
 }
 
 // The place of a unit, 10 or 100: its digit, or a space where the value is smaller.
@@ -168,9 +138,10 @@ fn place(value: u32, unit: u32) -> u8
     ensures { result ≡ place_of value unit }
 {
     if value < unit {
-        return b' ';
+        b' '
+    } else {
+        b'0' + (value / unit % 10) as u8
     }
-    b'0' + (value / unit % 10) as u8
 }
 
 // The three places that show a value: the last three of its digits, and spaces on the left where it has fewer.
@@ -189,7 +160,7 @@ pub fn fresh(own: u8) -> Display
     ensures { result ≡ fresh_display own }
 {
     Display {
-        own: own,
+        own,
         taken: false,
         sender: 0,
         number: 0,
@@ -197,81 +168,66 @@ pub fn fresh(own: u8) -> Display
     }
 }
 
-// Whether an order repeats the last one taken: its sender and its number are the same.
-fn is_repeat(display: Display, order: Order) -> bool
-    ensures { result ≡ is_repeat display order }
-{
-    if !display.taken {
-        return false;
+impl Display {
+    // Whether an order repeats the last one taken: its sender and its number are the same.
+    fn is_repeat(&self, order: Order) -> bool
+        ensures { result ≡ is_repeat self.now order }
+    {
+        self.taken && order.sender == self.sender && order.number == self.number
     }
-    if order.sender != display.sender {
-        return false;
-    }
-    order.number == display.number
-}
 
-// The display after it takes an order.
-fn after(display: Display, order: Order) -> Display
-    ensures { result ≡ taking display order }
-{
-    if is_repeat(display, order) {
-        return display;
+    // Takes an order, and shows its value unless it is a repeat.
+    fn show(&mut self, order: Order)
+        ensures { self.new ≡ taking self.old order }
+    {
+        if !self.is_repeat(order) {
+            self.taken = true;
+            self.sender = order.sender;
+            self.number = order.number;
+            self.places = shown(order.value);
+        }
     }
-    let places = shown(order.value);
-    Display {
-        own: display.own,
-        taken: true,
-        sender: order.sender,
-        number: order.number,
-        places: places,
-    }
-}
 
-// The reply to an order for this display, and the display after it, by whether the answer was written.
-fn answered(before: Display, order: Order, answer: Answer) -> Taken
-    ensures { taken_of result ≡ answering before order (outcome_of answer) }
-{
-    let next = after(before, order);
-    match answer {
-        Answer::Done(n) => Taken {
-            reply: Reply::Send(n),
-            display: next,
-        },
-        Answer::Refused(fault) => Taken {
-            reply: Reply::Refused(fault),
-            display: before,
-        },
+    // The reply to an order, whoever it is for.
+    fn serve(&mut self, order: Order, out: &mut [u8]) -> Result<Option<usize>, Refusal>
+        requires { (plain_ok self.old.own ≡ true) × (plain_ok order.sender ≡ true) × (plain_ok order.number ≡ true) }
+        ensures { ((reply_of result, self.new), out.new) ≡ served self.old order out.old }
+    {
+        if order.receiver == self.own {
+            let count = pcs::write(
+                order.sender,
+                order.receiver,
+                ANSWER,
+                order.number,
+                PORT,
+                PORT,
+                CRC,
+                b"",
+                out,
+            )?;
+            self.show(order);
+            return Ok(Some(count));
+        }
+        if order.receiver == EVERYBODY {
+            self.show(order);
+        }
+        Ok(None)
     }
-}
 
-// An order, whoever it is for.
-fn serve(display: Display, order: Order, out: &mut [u8]) -> Taken
-    requires { (plain_ok display.own ≡ true) × (plain_ok order.sender ≡ true) × (plain_ok order.number ≡ true) }
-    ensures { (taken_of result, out.new) ≡ served display order out.old }
-{
-    if order.receiver == display.own {
-        let answer = pcs::write(
-            order.sender,
-            order.receiver,
-            ANSWER,
-            order.number,
-            PORT,
-            PORT,
-            CRC,
-            b"",
-            out,
-        );
-        return answered(display, order, answer);
-    }
-    if order.receiver == EVERYBODY {
-        return Taken {
-            reply: Reply::Nothing,
-            display: after(display, order),
-        };
-    }
-    Taken {
-        reply: Reply::Nothing,
-        display: display,
+    // The reply to a run.
+    fn reply(
+        &mut self,
+        run: &[u8],
+        store: &mut [u8],
+        out: &mut [u8],
+    ) -> Result<Option<usize>, Refusal>
+        ensures { ((reply_of result, self.new), store.new, out.new) ≡ takes self.old run.now store.old out.old }
+    {
+        if !(1..=250).contains(&self.own) {
+            return Err(Refusal::Unsendable);
+        }
+        let order = read(run, store)?;
+        self.serve(order, out)
     }
 }
 
@@ -280,18 +236,7 @@ pub fn take(display: Display, run: &[u8], store: &mut [u8], out: &mut [u8]) -> T
     ensures { (taken_of result, store.new, out.new)
         ≡ takes display run.now store.old out.old }
 {
-    if !runs::is_between(1, 250, display.own) {
-        return Taken {
-            reply: Reply::Refused(refusal::UNSENDABLE),
-            display: display,
-        };
-    }
-    let got = read(run, store);
-    match got {
-        Reading::Refused(fault) => Taken {
-            reply: Reply::Refused(fault),
-            display: display,
-        },
-        Reading::Accepted(order) => serve(display, order, out),
-    }
+    let mut display = display;
+    let reply = display.reply(run, store, out);
+    Taken { reply, display }
 }

@@ -10,7 +10,7 @@ use Rattle.runs.specs.Runs.{Bytes}
 use Rattle.runs.proofs.Bytes.{bytes_append, bytes_two}
 use Rattle.escape.specs.Code.{hide}
 use Rattle.escape.specs.Dle.{dle}
-use Rattle.escape.proofs.Dle.{dle_bytes}
+use Rattle.escape.proofs.DleTheorems.{dle_bytes}
 use Rattle.dle.specs.Frame.{Message, content, error, Typed, ok, body, frame}
 use Rattle.dle.proofs.Body.{ok-length}
 

@@ -1,6 +1,6 @@
 -- `Passed` has what the tests at the end of a frame say, `Body` the bodies of messages, `Bytes` that frames are bytes, `OnByte` what each byte does
--- by the rules, `Readback` that frames read back, `Lawful` that the link is lawful, `Numbers`, `Places` which numbers it gives and what it leaves in the store, `Theorems` the claims. `Written` is for the writer's functions,
--- `Steps` and `Passing` for the receiver's.
+-- by the rules, `Readback` that frames read back, `Lawful` that the link is lawful, `Numbers`, `Places` which numbers it gives and what it leaves in
+-- the store, `Theorems` the claims. `Steps` and `Passing` are for the functions of the receiver.
 pub mod Passed
 pub mod Body
 pub mod Typed
@@ -11,6 +11,5 @@ pub mod Lawful
 pub mod Numbers
 pub mod Places
 pub mod Theorems
-pub mod Written
 pub mod Steps
 pub mod Passing

@@ -14,7 +14,7 @@ use Rattle.escape.specs.Code.{Meaning, byte, meaning, hide}
 use Rattle.runs.specs.Runs.{each}
 use Rattle.escape.specs.Dle.{dle}
 use Rattle.escape.proofs.Lawful.{hide-more, hide_short}
-use Rattle.escape.proofs.Dle.{dle_lawful}
+use Rattle.escape.specs.Laws.{dle_lawful}
 use Rattle.dle.specs.Frame.{Message, ok, body, enclose}
 use Rattle.dle.specs.Rules.{Phase, hunting, half, inside, size, gathered, held, fault_of, message_in, judge, gather, act, on_byte}
 use Rattle.dle.specs.Contract.{link}

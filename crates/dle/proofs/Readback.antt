@@ -15,7 +15,7 @@ use Rattle.framing.proofs.Segments.{step, step_accept}
 use Rattle.framing.proofs.Lawful.{at}
 use Rattle.escape.specs.Code.{byte, waits, meaning, hide}
 use Rattle.escape.specs.Dle.{dle}
-use Rattle.escape.proofs.Dle.{dle_lawful}
+use Rattle.escape.specs.Laws.{dle_lawful}
 use Rattle.escape.proofs.Gathered.{gathers}
 use Rattle.dle.specs.Frame.{Message, ok, body, frame}
 use Rattle.dle.specs.Rules.{hunting, inside, size, act, on_byte}

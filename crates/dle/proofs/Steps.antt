@@ -1,30 +1,24 @@
--- What the receiver's steps and its loop need of the rules.
-use Prim.Native.Nat.{ℕ, ◌≤◌}
-use mathlib.Core.Path.{◌≡◌, refl}
-use mathlib.Core.List.{List}
-use mathlib.Core.Option.{Option}
-use native.Mathlib.Omega.{arith}
-use lib.ListN.{length, length-take}
-use Rattle.runs.specs.Runs.{over}
+-- What the receiver's steps need of the rules.
+use Rattle.std.proofs.Common.{◌≡◌, ℕ, ◌<◌, ◌≤◌, Bool, true, false, cond, eqb, ltb, List, [], ◌∷◌, ◌++◌, length, take, sym, refl, arith, length-take, length-take-le, lt-ltb, le-ltb, ltb-true, ltb-false, ne_eqb}
+use mathlib.Core.Option.{Option, some}
+use Rattle.runs.specs.Runs.{over, each}
 use Rattle.runs.proofs.Cases.{by_eqb}
-use Rattle.framing.specs.Segment.{Segment}
+use Rattle.runs.proofs.Run.{more_count, more-over, same_over}
+use Rattle.framing.specs.Answer.{done, refused}
+use Rattle.framing.specs.Segment.{Segment, refused_frame, accepted_frame, event_of}
 use Rattle.framing.specs.State.{state_after}
+use Rattle.framing.specs.Link.{Lent, Told, nothing, step_on, told}
+use Rattle.framing.specs.Open.{Room, held_in, gathered_byte, heard}
 use Rattle.framing.specs.declared.State.{State}
-use Rattle.framing.proofs.States.{count_within}
+use Rattle.escape.specs.Code.{Meaning, byte, waits, start, end, wrong, meaning}
+use Rattle.escape.specs.Dle.{dle}
+use Rattle.escape.specs.Enclosed.{taken}
 use Rattle.dle.specs.Frame.{Message}
-use Rattle.dle.specs.Rules.{Phase, hunting, half, size, gathered, held, on_byte}
-use Rattle.dle.specs.Contract.{mode_of, phase_of}
-use Rattle.dle.proofs.OnByte.{takes}
-
--- hunting stores nothing
-abbrev Keeps : List ℕ → Phase × Option (Segment Message) → Type 0
-Keeps store r = store ≡ over (gathered r.0) store
-
-pub hunting_keeps : (store : List ℕ) (b : ℕ) → Keeps store (on_byte hunting b)
-hunting_keeps store b = by_eqb (Keeps store) b 0x10 (λ _. refl) (λ _. refl)
-
-pub half_keeps : (store : List ℕ) (b : ℕ) → Keeps store (on_byte half b)
-half_keeps store b = by_eqb (Keeps store) b 0x02 (λ _. refl) (λ _. refl)
+use Rattle.dle.specs.Rules.{Phase, inside, size, gathered, held, fault_of, message_in, judge, gather, act}
+use Rattle.dle.specs.Contract.{mode_of, phase_of, numbers_of, link}
+use Rattle.dle.specs.Steps.{judged}
+use Rattle.dle.specs.declared.Message as Numbers
+use Rattle.dle.proofs.OnByte.{judge_noise}
 
 -- what is gathered is as much as the count says, or less
 pub counted : (s : State) (store : List ℕ) → length (gathered (phase_of s store)) ≤ s.count
@@ -33,7 +27,49 @@ counted s store = by_eqb P s.mode 0 (λ _. omega arith) (λ _. by_eqb P s.mode 1
     P : Phase → Type 0
     P p = length (gathered p) ≤ s.count
 
--- the count stays within the size
-pub count_next : (s after : State) (store : List ℕ) (b : ℕ) → s.count ≤ size
-    → after ≡ state_after mode_of gathered held s (on_byte (phase_of s store) b).0 (on_byte (phase_of s store) b).1 → after.count ≤ size
-count_next = count_within mode_of gathered held phase_of on_byte size counted (λ p b h. (takes p b h).good)
+-- what is told of the end of a frame, which adds no noise
+judged_told : (g wire : List ℕ) → heard (judged g) ≡ told link (event_of (some (judge g wire)))
+judged_told g wire = go (eqb (fault_of g) 0)
+  where
+    go : (t : Bool)
+        → heard (cond t (done (numbers_of (message_in g))) (refused (fault_of g)))
+        ≡ told link (event_of (some (cond t (accepted_frame (message_in g)) (refused_frame (fault_of g) wire))))
+    go true = refl
+    go false = refl
+
+-- what becomes of a state and a store, and what is told, where the rules give r
+abbrev By : State → List ℕ → Phase × Option (Segment Message) → Lent link × Told Numbers.Message
+By s store r = ((state_after mode_of gathered held s r.0 r.1, over (gathered r.0) store), told link (event_of r.1))
+
+-- an open frame, by the meaning of a wire byte
+module _ (s : State) (store wire : List ℕ) (open_in : s.mode ≡ 0 → ⊥) (room : Room size s store) where
+  long : length (take s.count store) ≡ s.count
+  long = length-take-le s.count store (omega (arith, room.count, room.room))
+
+  gathered_taken : (b : ℕ) → (t : Bool) → ltb s.count size ≡ t → gathered_byte size 2 s store b ≡ By s store (gather (take s.count store) b wire)
+  gathered_taken b true e =
+      let l = ltb-true s.count size e in
+      let less : s.count < length store = omega (arith, l, room.room) in
+      let fits : s.count ≤ length store = omega (arith, less) in
+      rw (e, lt-ltb (length (take s.count store)) size (omega (arith, l, long)), ne_eqb s.mode 0 open_in)
+      (λ i. ((held_in s 2 (sym (more_count store s.count b fits) i), more-over store s.count b less i), nothing))
+  gathered_taken b false e = rw (e, le-ltb (length (take s.count store)) size (omega (arith, ltb-false s.count size e, long)))
+
+  act_taken : (m : Meaning) → taken size 2 3 2 judged s store m ≡ By s store (act (take s.count store) wire m)
+  unfolding each
+  act_taken (byte b) = gathered_taken b (ltb s.count size) refl
+  act_taken waits =
+      rw (ne_eqb s.mode 0 open_in) (λ i. ((held_in s 3 (sym long i), same_over store s.count (omega (arith, room.count, room.room)) i), nothing))
+  act_taken start = refl
+  act_taken end =
+      let g = take s.count store in
+      λ i. ((record { mode = 0; count = 0; «open» = 0; noise = sym (judge_noise g wire s.noise) i }, store), judged_told g wire i)
+  act_taken wrong = refl
+
+-- as `take_byte` has it
+pub inside_taken : (s : State) (store : List ℕ) (b : ℕ) → 2 ≤ s.mode → Room size s store
+    → taken size 2 3 2 judged s store (meaning dle (eqb s.mode 3) b) ≡ ((step_on link (s, store) b).0, told link (step_on link (s, store) b).1)
+inside_taken s store b open_in room =
+    let wire = held (inside (eqb s.mode 3) (take s.count store)) ++ (b ∷ []) in
+    rw (ne_eqb s.mode 0 (omega arith), ne_eqb s.mode 1 (omega arith))
+    (act_taken s store wire (λ e. omega (arith, e)) room (meaning dle (eqb s.mode 3) b))

@@ -5,7 +5,7 @@ use Rattle.runs.specs.Runs.{Bytes}
 use Rattle.runs.proofs.Bytes.{bytes_left}
 use Rattle.escape.specs.Code.{hide}
 use Rattle.escape.specs.Dle.{dle}
-use Rattle.escape.proofs.Dle.{dle-small}
+use Rattle.escape.proofs.DleTheorems.{dle-small}
 use Rattle.dle.specs.Frame.{Message, content, error, Typed, body, frame}
 
 body-small : (m : Message) → Bytes (body m) → Typed m

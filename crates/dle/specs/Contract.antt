@@ -1,15 +1,12 @@
 -- What the functions of the DLE link answer and leave, for every input.
 use Rattle.std.specs.Prelude.{ℕ, cond, List, length, take, eqb}
 use Rattle.framing.specs.State.{fresh_state, known_state, state_after}
-use Rattle.framing.specs.Link.{Link, Lent, Told, nothing, accepted, refused, data_at}
+use Rattle.framing.specs.Link.{Link, data_at}
 use Rattle.framing.specs.declared.State.{State}
 use Rattle.dle.specs.Frame.{content, error, Typed, ok, frame}
 use Rattle.dle.specs.Frame as Frame
 use Rattle.dle.specs.Rules.{Phase, hunting, half, inside, size, gathered, held, on_byte}
 use Rattle.dle.specs.declared.Message.{Message}
-use Rattle.dle.specs.declared.Event.{Event}
-use Rattle.dle.specs.declared.Event.TheVariants.{Nothing, Accepted, Refused}
-use Rattle.dle.specs.declared.Received.{Received}
 
 -- the number of each phase: 0 and, behind a 10, 1 hunting; 2 and, behind a 10, 3 open
 abbrev pub mode_of : Phase → ℕ
@@ -60,13 +57,3 @@ link =
       numbers_of = numbers_of;
       message_of = message_of;
     }
-
--- each case of the receiver's answer
-abbrev pub told_of : Event → Told Message
-told_of Nothing = nothing
-told_of (Accepted m) = accepted m
-told_of (Refused n) = refused n
-
--- an answer with the store after the call
-abbrev pub received_of : Received → List ℕ → Told Message × ℕ × Lent link
-received_of r store = (told_of r.event, r.used, (r.state, store))

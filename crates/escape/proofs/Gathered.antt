@@ -13,7 +13,7 @@ use Rattle.framing.proofs.Feed.{Quiet, quiet_nil, quiet_cons, quiet_append}
 use Rattle.framing.proofs.Segments.{step, step_open}
 use Rattle.framing.proofs.Lawful.{at}
 use Rattle.escape.specs.Code.{Code, byte, waits, meaning, hide}
-use Rattle.escape.proofs.Lawful.{Coded, alone, pair, Lawful}
+use Rattle.escape.specs.Lawful.{Coded, alone, pair, Lawful}
 
 -- inside a frame, half an escape waits, and a completed byte is gathered where there is room
 module _ {P M : Type 0} (code : Code) (lawful : Lawful code) (on_byte : P → ℕ → P × Option (Segment M)) (inside : Bool → List ℕ → P) (size : ℕ)

@@ -1,4 +1,4 @@
--- Lawful codes: what is hidden reads back, and what is read is what hiding makes.
+-- Of a lawful code what is hidden reads back, and what is read is what hiding makes.
 use Prim.Native.Nat.{ℕ, zero, suc, ◌+◌, ◌*◌, ◌≤◌, ◌<◌}
 use mathlib.Core.Path.{◌≡◌, refl, ap, sym, ◌∙◌}
 use mathlib.Core.Bool.{Bool, true, false, cond}
@@ -10,25 +10,39 @@ use lib.ListN.{length, take, length-append}
 use lib.Seq.{take-append-add}
 use Rattle.escape.specs.Code.{Meaning, byte, waits, start, end, wrong, Code, meaning, hide, read_first, read_second, unhide_up_to}
 use Rattle.runs.specs.Runs.{Bytes, each}
+use Rattle.escape.specs.Lawful.{Coded, alone, pair, Lawful}
+use Rattle.std.specs.Prelude.{sum_by}
+use Rattle.std.proofs.lemmas.List.Sums.{sum_by-cons}
 use Rattle.escape.specs.Claims.{HiddenReadsBack, ReadIsHidden}
 use Rattle.runs.proofs.Bytes.{bytes_left, bytes_right}
 use Rattle.runs.proofs.Each.{each_snoc, each_short}
 
--- the run that hides a byte is the byte alone, where it means itself, or a byte that waits and one that completes the hidden byte
-pub data Coded (code : Code) (b : ℕ) : List ℕ → Type 0 where
-  alone : code.plain b ≡ byte b → Coded code b (b ∷ [])
-  pair : (e x : ℕ) → code.plain e ≡ waits → code.after x ≡ byte b → Coded code b (e ∷ x ∷ [])
-
--- hiding and reading fit together: each run reads back as its byte, and nothing else reads as that byte
-pub record Lawful (code : Code) : Type 0 where
-  pub coded : (b : ℕ) → Coded code b (code.hide_byte b)
-  pub plain_byte : (w b : ℕ) → code.plain w ≡ byte b → code.hide_byte b ≡ w ∷ []
-  pub after_byte : (e x b : ℕ) → code.plain e ≡ waits → code.after x ≡ byte b → code.hide_byte b ≡ e ∷ x ∷ []
-  pub after_settles : (x : ℕ) → code.after x ≡ waits → ⊥
-
 -- what is read of wire bytes, with a byte of so many wire bytes before it
 abbrev pub led : ℕ → ℕ → List ℕ × ℕ → List ℕ × ℕ
 led b n u = (b ∷ u.0, n + u.1)
+
+-- no more bytes are read than asked for
+most_first : (r : ℕ) (m : Meaning) (behind both : List ℕ × ℕ) → length behind.0 ≤ r → length both.0 ≤ suc r → length (read_first m behind both).0 ≤ suc r
+most_first r (byte b) behind both h k = omega arith
+most_first r waits behind both h k = k
+most_first r start behind both h k = omega arith
+most_first r end behind both h k = omega arith
+most_first r wrong behind both h k = omega arith
+
+most_second : (r : ℕ) (m : Meaning) (behind : List ℕ × ℕ) → length behind.0 ≤ r → length (read_second m behind).0 ≤ suc r
+most_second r (byte b) behind h = omega arith
+most_second r waits behind h = omega arith
+most_second r start behind h = omega arith
+most_second r end behind h = omega arith
+most_second r wrong behind h = omega arith
+
+pub most_read : (code : Code) (r : ℕ) (wire : List ℕ) → length (unhide_up_to code r wire).0 ≤ r
+unfolding unhide_up_to
+most_read code zero wire = omega arith
+most_read code (suc r) [] = omega arith
+most_read code (suc r) (w ∷ []) = most_first r (code.plain w) ([], 0) ([], 0) (omega arith) (omega arith)
+most_read code (suc r) (w ∷ x ∷ wire) =
+    most_first r (code.plain w) (unhide_up_to code r (x ∷ wire)) _ (most_read code r (x ∷ wire)) (most_second r (code.after x) (unhide_up_to code r wire) (most_read code r wire))
 
 module _ (code : Code) (lawful : Lawful code) where
   unhide_none : (n : ℕ) → unhide_up_to code n [] ≡ ([], 0)
@@ -143,3 +157,10 @@ module _ (code : Code) (lawful : Lawful code) where
   unhidden_bytes small [] h i = lit< tt
   unhidden_bytes small (b ∷ bytes) h zero = small b (bytes_left (code.hide_byte b) (hide code bytes) h)
   unhidden_bytes small (b ∷ bytes) h (suc i) = unhidden_bytes small bytes (bytes_right (code.hide_byte b) (hide code bytes) h) i
+
+-- the wire bytes of bytes, added up
+pub hidden-sum : (code : Code) (bytes : List ℕ) → length (hide code bytes) ≡ sum_by (λ b. length (code.hide_byte b)) bytes
+unfolding each
+hidden-sum code [] = refl
+hidden-sum code (b ∷ bytes) =
+    omega (arith, hidden-sum code bytes, length-append (code.hide_byte b) (hide code bytes), sum_by-cons (λ x. length (code.hide_byte x)) b bytes)

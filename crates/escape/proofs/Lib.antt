@@ -1,11 +1,10 @@
--- `Lawful` has the laws of codes that read back. `OneEscape` shows that a code with one
--- escape byte is lawful; `Dle` and `Expansion` use it, and have their codes' own claims. `Form` shows both codes in the one form of the
--- loops. `Gathered`: what a receiver makes of hidden bytes.
+-- `Lawful`: of a lawful code what is hidden reads back. `DleTheorems` and `ExpansionTheorems` have this of each code, and its own claims.
+-- `Reading`: what the loop that reads wire bytes keeps. `Gathered` and `Passing`: what a receiver makes of hidden bytes.
+-- `Written`: a frame as it is written.
 pub mod Lawful
-pub mod OneEscape
-pub mod Dle
-pub mod Expansion
-pub mod Form
+pub mod DleTheorems
+pub mod ExpansionTheorems
+pub mod Reading
 pub mod Gathered
-pub mod Unhide
 pub mod Passing
+pub mod Written

@@ -16,9 +16,13 @@ use Rattle.runs.proofs.Run.{more_count, more-over}
 use Rattle.runs.proofs.Bytes.{part_rest}
 use Rattle.framing.specs.Link.{Link, Lent, step_on}
 use Rattle.framing.specs.Passing.{Leads}
-use Rattle.framing.proofs.Passing.{Gathers}
-use Rattle.framing.proofs.Passing.{leads_then, leads_byte, gathers_none, gathers_then}
+use Rattle.framing.specs.Open.{Room}
+use Rattle.framing.specs.declared.State.{State}
+use Rattle.framing.specs.declared.Reached.{Reached}
+use Rattle.framing.proofs.Passing.{Gathers, leads_then, leads_byte, gathers_none, gathers_then, gathers_leads}
+use Rattle.escape.specs.Enclosed.{passed}
 use Rattle.escape.specs.Code.{Code, Meaning, byte, waits, start, end, wrong, read_first, read_second, unhide_up_to, unhide_into}
+use Rattle.escape.proofs.Lawful.{most_read}
 
 -- what a link does with a wire byte of an open frame, with half an escape waiting or not, by its counts of gathered, open and noise bytes
 pub record Gathering (L : Link) (code : Code) (opened waiting : ℕ → ℕ → ℕ → L.State) : Type 0 where
@@ -41,29 +45,6 @@ module _ (size k : ℕ) (store : List ℕ) (room : size ≤ length store) where
       → ◌≡◌ {A = (S × List ℕ) × Option E} ((at (length (take k store ++ (v ∷ []))), over (take k store ++ (v ∷ [])) store), none) ((at (k + 1), set store k v), none)
   gathered-one at v less = λ i. ((at (more_count store k v (omega arith) i), sym (more-over store k v (omega arith)) i), none)
 
--- no more bytes are read than asked for
-most_first : (r : ℕ) (m : Meaning) (behind both : List ℕ × ℕ) → length behind.0 ≤ r → length both.0 ≤ suc r → length (read_first m behind both).0 ≤ suc r
-most_first r (byte b) behind both h k = omega arith
-most_first r waits behind both h k = k
-most_first r start behind both h k = omega arith
-most_first r end behind both h k = omega arith
-most_first r wrong behind both h k = omega arith
-
-most_second : (r : ℕ) (m : Meaning) (behind : List ℕ × ℕ) → length behind.0 ≤ r → length (read_second m behind).0 ≤ suc r
-most_second r (byte b) behind h = omega arith
-most_second r waits behind h = omega arith
-most_second r start behind h = omega arith
-most_second r end behind h = omega arith
-most_second r wrong behind h = omega arith
-
-most_read : (code : Code) (r : ℕ) (wire : List ℕ) → length (unhide_up_to code r wire).0 ≤ r
-unfolding unhide_up_to
-most_read code zero wire = omega arith
-most_read code (suc r) [] = omega arith
-most_read code (suc r) (w ∷ []) = most_first r (code.plain w) ([], 0) ([], 0) (omega arith) (omega arith)
-most_read code (suc r) (w ∷ x ∷ wire) =
-    most_first r (code.plain w) (unhide_up_to code r (x ∷ wire)) _ (most_read code r (x ∷ wire)) (most_second r (code.after x) (unhide_up_to code r wire) (most_read code r wire))
-
 module _ {L : Link} {code : Code} {opened waiting : ℕ → ℕ → ℕ → L.State} (rules : Gathering L code opened waiting) (piece : List ℕ) where
   -- what u says is gathered, from place i on, where k bytes are
   abbrev Read : List ℕ → ℕ → ℕ → List ℕ × ℕ → Type 0
@@ -81,7 +62,7 @@ module _ {L : Link} {code : Code} {opened waiting : ℕ → ℕ → ℕ → L.St
         same_length = length-set store k v;
         passes = λ o z l.
             let held : (o + 1) % 2 ^ 32 ≡ (o + (i + 1 - i)) % 2 ^ 32 = omega arith in
-            subst (λ (q : ℕ). Leads L piece (opened k o z, store) i (opened (k + 1) q z, set store k v) (i + 1)) held
+            subst (λ (q : ℕ). Leads (step_on L) piece (opened k o z, store) i (opened (k + 1) q z, set store k v) (i + 1)) held
             (leads_byte L piece (opened k o z, store) (opened (k + 1) ((o + 1) % 2 ^ 32) z, set store k v) i h (length-set store k v)
             (rules.whole k o z (get_or piece i 0) v store less room e));
       }
@@ -98,8 +79,8 @@ module _ {L : Link} {code : Code} {opened waiting : ℕ → ℕ → ℕ → L.St
             let held : ((o + 1) % 2 ^ 32 + 1) % 2 ^ 32 ≡ (o + (i + 2 - i)) % 2 ^ 32 = omega arith in
             let mid : Lent L = (waiting k ((o + 1) % 2 ^ 32) z, store) in
             let last : Lent L = (opened (k + 1) (((o + 1) % 2 ^ 32 + 1) % 2 ^ 32) z, set store k v) in
-            subst (λ (q : ℕ). Leads L piece (opened k o z, store) i (opened (k + 1) q z, set store k v) (i + 2)) held
-            (subst (Leads L piece (opened k o z, store) i last) next
+            subst (λ (q : ℕ). Leads (step_on L) piece (opened k o z, store) i (opened (k + 1) q z, set store k v) (i + 2)) held
+            (subst (Leads (step_on L) piece (opened k o z, store) i last) next
             (leads_then L piece
             (leads_byte L piece (opened k o z, store) mid i (omega arith) refl (rules.half k o z (get_or piece i 0) store (omega arith) room e))
             (leads_byte L piece mid last (i + 1) h (length-set store k v) (rules.second k ((o + 1) % 2 ^ 32) z (get_or piece (i + 1) 0) v store less room f))));
@@ -175,3 +156,28 @@ module _ {L : Link} {code : Code} {opened waiting : ℕ → ℕ → ℕ → L.St
       let wire = take (length piece - i) (drop i piece) in
       let r = min (L.size - k) (length store - k) in
       (rw (e, f, g) (gathers_up_to r wire store k i (omega arith) room l (sym (part_rest piece i))), omega (arith, e, most_read code r wire))
+
+-- a link of the shared state that passes the bytes of an open frame as far as they come whole: it goes on without an event, and no more is counted
+-- than the size
+module _ (L : Link) (to : State → L.State) where
+  abbrev pub in_mode : ℕ → ℕ → ℕ → ℕ → L.State
+  in_mode mode count held noise = to (record { mode = mode; count = count; «open» = held; noise = noise })
+
+  pub passed_leads : {code : Code} {opened waiting : ℕ} → Gathering L code (in_mode opened) (in_mode waiting) → (piece store after : List ℕ) (s : State) (i : ℕ) (r : Reached State) → s.mode ≡ opened
+      → s.«open» < 2 ^ 32 → Room L.size s store → i ≤ length piece → (r, after) ≡ passed code L.size s store piece i
+      → Leads (step_on L) piece (to s, store) i (to r.state, after) r.next × (r.state.count ≤ L.size) × (length after ≡ length store)
+  passed_leads {code} {opened} {waiting} rules piece store after s i r mode fits room h e =
+      let u = unhide_into code (drop i piece) store s.count (L.size - s.count) in
+      let u' = unhide_into code (take (length piece - i) (drop i piece)) store s.count (L.size - s.count) in
+      let same : u' ≡ u = ap (λ (w : List ℕ). unhide_into code w store s.count (L.size - s.count)) (part_rest piece i) in
+      let g = gathers_told rules piece store (sets store s.count u.0) s.count i (length u.0) u.1 room.count room.room h
+      (ap (λ (x : List ℕ × ℕ). length x.0) (sym same)) (ap (λ (x : List ℕ × ℕ). x.1) (sym same)) (ap (λ (x : List ℕ × ℕ). sets store s.count x.0) (sym same)) in
+      let held : u.1 ≡ i + u.1 - i = omega arith in
+      rw (ap (λ (x : Reached State × List ℕ). x.0) e, ap (λ (x : Reached State × List ℕ). x.1) e) (
+        gathers_leads L piece (in_mode opened) (to s) _ store (sets store s.count u.0) s.count s.«open» s.noise i (s.count + length u.0) (i + u.1) fits
+            (λ k. to (record { mode = mode k; count = s.count; «open» = s.«open»; noise = s.noise }))
+            (λ k. to (record { mode = mode k; count = s.count + length u.0; «open» = (s.«open» + held k) % 2 ^ 32; noise = s.noise }))
+            g.0,
+        g.1,
+        g.0.same_length,
+      )

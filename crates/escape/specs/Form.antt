@@ -1,31 +1,20 @@
--- Both codes in one form, three numbers, over which the loops are written once. This serves the contracts of private functions only.
-use Rattle.std.specs.Prelude.{ℕ, zero, suc, ◌+◌, ◌-◌, Bool, cond, ◌&&◌, List, [], ◌∷◌, leb, ltb, eqb, length, get_or}
-use Rattle.escape.specs.declared.Escapes.{Escapes}
+-- Codes in one form, three numbers and the rules of meaning, over which the loops are written once: it serves the laws of the trait and private
+-- functions.
+use Rattle.std.specs.Prelude.{ℕ, ◌-◌, cond, List, [], ◌∷◌, Option, Some, None}
+use Rattle.runs.specs.Runs.{between}
+use Rattle.escape.specs.Code.{Meaning, byte, waits, Code}
 
--- the bytes from the first to the escape byte itself are hidden
-abbrev pub hides : Escapes → ℕ → Bool
-hides escapes b = leb escapes.first b && leb b escapes.escape
+-- the bytes from the first to the escape byte itself are hidden, each as the escape byte and then the top less the byte
+abbrev pub run_of : ℕ → ℕ → ℕ → ℕ → List ℕ
+run_of first escape top b = cond (between first escape b) (escape ∷ (top - b) ∷ []) (b ∷ [])
 
--- a hidden byte becomes the escape byte and then the top less the byte
-abbrev pub run_of : Escapes → ℕ → List ℕ
-run_of escapes b = cond (hides escapes b) (escapes.escape ∷ (escapes.top - b) ∷ []) (b ∷ [])
+-- the byte that two wire bytes hide, by what they mean
+abbrev pub hidden_by : Meaning → Meaning → Option ℕ
+hidden_by waits (byte b) = Some b
+hidden_by _ _ = None
 
--- after the escape byte, a byte that hides one: the top less it is a hidden byte
-abbrev pub uncodes : Escapes → ℕ → Bool
-uncodes escapes x = leb x escapes.top && hides escapes (escapes.top - x)
-
--- a hidden byte lies whole at a place: the escape byte and one that hides a byte
-abbrev pub pair_at : Escapes → List ℕ → ℕ → Bool
-pair_at escapes wire at = ltb (at + 1) (length wire) && (eqb (get_or wire at 0) escapes.escape && uncodes escapes (get_or wire (at + 1) 0))
-
--- what wire bytes stand for, up to n bytes, and how many they take
-unfoldable pub unhide_by : Escapes → ℕ → List ℕ → List ℕ × ℕ
-unhide_by escapes zero wire = ([], 0)
-unhide_by escapes (suc n) [] = ([], 0)
-unhide_by escapes (suc n) (w ∷ []) = cond (hides escapes w) ([], 0) (w ∷ [], 1)
-unhide_by escapes (suc n) (w ∷ x ∷ wire) =
-    let behind = unhide_by escapes n (x ∷ wire) in
-    let both = unhide_by escapes n wire in
-    cond (hides escapes w)
-    (cond (eqb w escapes.escape && uncodes escapes x) ((escapes.top - x) ∷ both.0, 2 + both.1) ([], 0))
-    (w ∷ behind.0, 1 + behind.1)
+-- the hidden byte with which wire bytes begin, where both bytes that hide it are there
+abbrev pub hidden_first : Code → List ℕ → Option ℕ
+hidden_first code [] = None
+hidden_first code (w ∷ []) = None
+hidden_first code (w ∷ x ∷ wire) = hidden_by (code.plain w) (code.after x)

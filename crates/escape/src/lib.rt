@@ -1,16 +1,23 @@
 // Hiding bytes between the marks of a frame: DLE doubling and the expansion escape.
 #![tactic(auto)]
 
-ghost use Rattle.std.specs.Prelude.{◌≡◌, ◌+◌, ◌-◌, ◌≤◌, min, leb, length, take, drop};
+mod enclosed;
+
+ghost use Rattle.std.specs.Prelude.{◌≡◌, ℕ, ◌+◌, ◌≤◌, nat_le, length};
+ghost use Rattle.std.proofs.Common.{lit≤};
 ghost use Rattle.std.proofs.lemmas.List.Edits.{sets};
 ghost use Rattle.framing.specs.Answer.{outcome_of, stored_at};
-ghost use Rattle.escape.specs.Code.{meaning_of, hide, unhide_into};
-ghost use Rattle.runs.specs.Runs.{each, before};
+ghost use Rattle.runs.specs.Runs.{between};
+ghost use Rattle.escape.specs.Code as Rules;
+ghost use Rattle.escape.specs.Code.{meaning_of, meaning, hide, unhide_up_to, unhide_into};
 ghost use Rattle.escape.specs.Dle.{dle};
 ghost use Rattle.escape.specs.Expansion.{expansion};
-ghost use Rattle.escape.specs.Form.{hides, run_of, uncodes, pair_at, unhide_by};
+ghost use Rattle.escape.specs.Lawful.{Lawful};
+ghost use Rattle.escape.specs.Form.{run_of, hidden_first};
+ghost use Rattle.escape.specs.Laws.{dle_lawful, dle_hides, expansion_lawful, expansion_hides};
 
-use framing::{Answer, refusal};
+pub use enclosed::{Enclosed, enclose_into};
+use framing::{Answer, Refusal};
 
 // What a wire byte means between the marks: it completes this byte, it is half of an escape, it is or completes a mark, or it is wrongly coded.
 #[derive(Clone, Copy)]
@@ -22,121 +29,204 @@ pub enum Meaning {
     Wrong,
 }
 
-// A DLE byte with no 10 waiting.
-pub fn dle_plain(byte: u8) -> Meaning
-    ensures { meaning_of result ≡ dle.plain byte }
-{
-    match byte {
-        0x10 => Meaning::Waits,
-        _ => Meaning::Byte(byte),
-    }
-}
-
-// A DLE byte after a 10.
-pub fn dle_after(byte: u8) -> Meaning
-    ensures { meaning_of result ≡ dle.after byte }
-{
-    match byte {
-        0x02 => Meaning::Start,
-        0x03 => Meaning::End,
-        0x10 => Meaning::Byte(0x10),
-        _ => Meaning::Wrong,
-    }
-}
-
-// An expansion byte with no FF waiting.
-pub fn expansion_plain(byte: u8) -> Meaning
-    ensures { meaning_of result ≡ expansion.plain byte }
-{
-    match byte {
-        0xFD => Meaning::Start,
-        0xFE => Meaning::End,
-        0xFF => Meaning::Waits,
-        _ => Meaning::Byte(byte),
-    }
-}
-
-// An expansion byte after an FF.
-pub fn expansion_after(byte: u8) -> Meaning
-    ensures { meaning_of result ≡ expansion.after byte }
-{
-    match byte {
-        0xFD => Meaning::Start, // FD always starts
-        0x02 => Meaning::Byte(0xFD),
-        0x01 => Meaning::Byte(0xFE),
-        0x00 => Meaning::Byte(0xFF),
-        _ => Meaning::Wrong, // FE too
-    }
-}
-
-// Both codes in one form: the bytes from `first` to `escape` are hidden, each as `escape` and then `top` less the byte.
+// What is read of a run of wire bytes: how many bytes it stands for, and how many wire bytes they take.
 #[derive(Clone, Copy)]
-struct Escapes {
-    first: u8,
-    escape: u8,
-    top: u8,
+pub struct Unhidden {
+    pub count: usize,
+    pub used: usize,
 }
 
-const DLE: Escapes = Escapes {
-    first: 0x10,
-    escape: 0x10,
-    top: 0x20,
-};
+// A code: it hides the bytes from FIRST to ESCAPE, each as ESCAPE and then TOP less the byte.
+pub trait Code {
+    ghost code: { Rules.Code };
 
-const EXPANSION: Escapes = Escapes {
-    first: 0xFD,
-    escape: 0xFF,
-    top: 0xFF,
-};
+    ghost FIRST: { ℕ };
+
+    ghost ESCAPE: { ℕ };
+
+    ghost TOP: { ℕ };
+
+    const FIRST: u8;
+
+    const ESCAPE: u8;
+
+    const TOP: u8;
+
+    // A wire byte with no ESCAPE waiting.
+    fn plain(byte: u8) -> Meaning
+        ensures { meaning_of result ≡ code.plain byte };
+
+    // A wire byte after an ESCAPE.
+    fn after(byte: u8) -> Meaning
+        ensures { meaning_of result ≡ code.after byte };
+
+    // Hidden bytes read back, and only they do.
+    ghost lawful: { Lawful code };
+
+    ghost hides: { (b : ℕ) → code.hide_byte b ≡ run_of FIRST ESCAPE TOP b };
+
+    ghost codes_fit: { ESCAPE ≤ TOP };
+
+    // A wire byte, with an ESCAPE waiting or not.
+    final fn meaning(waiting: bool, byte: u8) -> Meaning
+        ensures { meaning_of result ≡ meaning code waiting byte }
+    {
+        if waiting {
+            Self::after(byte)
+        } else {
+            Self::plain(byte)
+        }
+    }
+
+    // How many wire bytes bytes take.
+    final fn hidden_length(bytes: &[u8]) -> usize
+        ensures { result ≡ length (hide code bytes.now) }
+    {
+        bytes.iter().map(|byte| size::<Self>(*byte)).sum()
+    }
+
+    // Stores bytes hidden from a place on; where they do not fit there, stores nothing.
+    final fn hide_into(bytes: &[u8], out: &mut [u8], at: usize) -> Answer
+        ensures { (outcome_of result, out.new) ≡ stored_at (hide code bytes.now) out.old at }
+    {
+        if has_room::<Self>(bytes, at, out.len()) {
+            Ok(put_bytes::<Self>(bytes, out, at))
+        } else {
+            Err(Refusal::OutputShort)
+        }
+    }
+
+    // Stores what wire bytes stand for from a place on, as many as come whole and fit there, and so many at most.
+    final fn unhide_into(wire: &[u8], out: &mut [u8], at: usize, most: usize) -> Unhidden
+        ensures count { result.count ≡ length (unhide_into code wire.now out.old at most).0 }
+        ensures used { result.used ≡ (unhide_into code wire.now out.old at most).1 }
+        ensures put { out.new ≡ sets out.old at (unhide_into code wire.now out.old at most).0 }
+    {
+        match out.len().checked_sub(at) {
+            Some(left) => unhide::<Self>(wire, &mut out[at..at + most.min(left)]),
+            None => Unhidden { count: 0, used: 0 },
+        }
+    }
+}
+
+// Between the marks every 10 is doubled.
+pub struct Dle;
+
+impl Code for Dle {
+    ghost code = { dle };
+
+    ghost FIRST = { 0x10 };
+
+    ghost ESCAPE = { 0x10 };
+
+    ghost TOP = { 0x20 };
+
+    ghost lawful = { dle_lawful };
+
+    ghost hides = { dle_hides };
+
+    ghost codes_fit = { lit≤ tt };
+
+    const FIRST: u8 = 0x10;
+
+    const ESCAPE: u8 = 0x10;
+
+    const TOP: u8 = 0x20;
+
+    fn plain(byte: u8) -> Meaning {
+        match byte {
+            0x10 => Meaning::Waits,
+            _ => Meaning::Byte(byte),
+        }
+    }
+
+    fn after(byte: u8) -> Meaning {
+        match byte {
+            0x02 => Meaning::Start,
+            0x03 => Meaning::End,
+            0x10 => Meaning::Byte(0x10),
+            _ => Meaning::Wrong,
+        }
+    }
+}
+
+// A byte b from FD on is sent as FF and then FF - b.
+pub struct Expansion;
+
+impl Code for Expansion {
+    ghost code = { expansion };
+
+    ghost FIRST = { 0xFD };
+
+    ghost ESCAPE = { 0xFF };
+
+    ghost TOP = { 0xFF };
+
+    ghost lawful = { expansion_lawful };
+
+    ghost hides = { expansion_hides };
+
+    ghost codes_fit = { lit≤ tt };
+
+    const FIRST: u8 = 0xFD;
+
+    const ESCAPE: u8 = 0xFF;
+
+    const TOP: u8 = 0xFF;
+
+    fn plain(byte: u8) -> Meaning {
+        match byte {
+            0xFD => Meaning::Start,
+            0xFE => Meaning::End,
+            0xFF => Meaning::Waits,
+            _ => Meaning::Byte(byte),
+        }
+    }
+
+    fn after(byte: u8) -> Meaning {
+        match byte {
+            0xFD => Meaning::Start, // FD always starts
+            0x02 => Meaning::Byte(0xFD),
+            0x01 => Meaning::Byte(0xFE),
+            0x00 => Meaning::Byte(0xFF),
+            _ => Meaning::Wrong, // FE too
+        }
+    }
+}
 
 // Whether a code hides a byte.
-fn is_hidden(escapes: Escapes, byte: u8) -> bool
-    ensures { result ≡ hides escapes byte }
+fn is_hidden<C: Code>(byte: u8) -> bool
+    ensures { result ≡ between C.FIRST C.ESCAPE byte }
 {
-    escapes.first <= byte && byte <= escapes.escape
+    runs::is_between(C::FIRST, C::ESCAPE, byte)
 }
 
 // How many wire bytes a byte takes.
-fn size_by(escapes: Escapes, byte: u8) -> usize
-    ensures { result ≡ length (run_of escapes byte) }
+fn size<C: Code>(byte: u8) -> usize
+    ensures { result ≡ length (C.code.hide_byte byte) }
 {
-    if is_hidden(escapes, byte) { 2 } else { 1 }
-}
-
-// How many wire bytes a run of bytes takes.
-fn length_by(escapes: Escapes, bytes: &[u8]) -> usize
-    ensures { result ≡ length (each (run_of escapes) bytes.now) }
-{
-    let mut n: usize = 0;
-    let mut i = 0;
-    while i < bytes.len() {
-        n += size_by(escapes, bytes[i]);
-        i += 1;
-    }
-    n
+    if is_hidden::<C>(byte) { 2 } else { 1 }
 }
 
 // Whether a run of bytes, hidden, fits at a place of a memory. Where two wire bytes for each fit, they need not be counted.
-fn has_room(escapes: Escapes, bytes: &[u8], at: usize, memory: usize) -> bool
-    ensures { result ≡ leb (at + length (each (run_of escapes) bytes.now)) memory }
+fn has_room<C: Code>(bytes: &[u8], at: usize, memory: usize) -> bool
+    ensures { result ≡ nat_le (at + length (hide C.code bytes.now)) memory }
 {
-    if at <= memory && bytes.len() <= (memory - at) / 2 {
-        true
-    } else {
-        let size = length_by(escapes, bytes);
-        runs::fits(at, size, memory)
+    match memory.checked_sub(at) {
+        Some(room) => bytes.len() <= room / 2 || C::hidden_length(bytes) <= room,
+        None => false,
     }
 }
 
 // Stores a byte at a place, hidden, and tells how many wire bytes it took.
-fn put_byte(escapes: Escapes, byte: u8, out: &mut [u8], at: usize) -> usize
-    requires { (escapes.escape ≤ escapes.top) × (at + length (run_of escapes byte) ≤ length out.old) }
-    ensures taken { result ≡ length (run_of escapes byte) }
-    ensures put { out.new ≡ sets out.old at (run_of escapes byte) }
+fn put_byte<C: Code>(byte: u8, out: &mut [u8], at: usize) -> usize
+    requires { at + length (C.code.hide_byte byte) ≤ length out.old }
+    ensures taken { result ≡ length (C.code.hide_byte byte) }
+    ensures put { out.new ≡ sets out.old at (C.code.hide_byte byte) }
 {
-    if is_hidden(escapes, byte) {
-        out[at] = escapes.escape;
-        out[at + 1] = escapes.top - byte;
+    if is_hidden::<C>(byte) {
+        out[at] = C::ESCAPE;
+        out[at + 1] = C::TOP - byte;
         2
     } else {
         out[at] = byte;
@@ -145,185 +235,60 @@ fn put_byte(escapes: Escapes, byte: u8, out: &mut [u8], at: usize) -> usize
 }
 
 // Stores bytes from a place on, hidden, and tells how many wire bytes they took.
-fn put_bytes(escapes: Escapes, bytes: &[u8], out: &mut [u8], at: usize) -> usize
-    requires { (escapes.escape ≤ escapes.top) × (at + length (each (run_of escapes) bytes.now) ≤ length out.old) }
-    ensures taken { result ≡ length (each (run_of escapes) bytes.now) }
-    ensures put { out.new ≡ sets out.old at (each (run_of escapes) bytes.now) }
+fn put_bytes<C: Code>(bytes: &[u8], out: &mut [u8], at: usize) -> usize
+    requires { at + length (hide C.code bytes.now) ≤ length out.old }
+    ensures taken { result ≡ length (hide C.code bytes.now) }
+    ensures put { out.new ≡ sets out.old at (hide C.code bytes.now) }
 {
     let mut n: usize = 0;
-    let mut i = 0;
-    while i < bytes.len() {
-        let more = put_byte(escapes, bytes[i], out, at + n);
-        n += more;
-        i += 1;
+    for byte in bytes {
+        n += put_byte::<C>(*byte, out, at + n);
     }
     n
 }
 
-// Stores bytes from a place on, hidden, if they fit there.
-fn hide_by(escapes: Escapes, bytes: &[u8], out: &mut [u8], at: usize) -> Answer
-    requires { escapes.escape ≤ escapes.top }
-    ensures { (outcome_of result, out.new) ≡ stored_at (each (run_of escapes) bytes.now) out.old at }
+// The hidden byte with which wire bytes begin, where it lies whole.
+fn first_hidden<C: Code>(wire: &[u8]) -> Option<u8>
+    ensures { result ≡ hidden_first C.code wire.now }
 {
-    if has_room(escapes, bytes, at, out.len()) {
-        let n = put_bytes(escapes, bytes, out, at);
-        Answer::Done(n)
-    } else {
-        Answer::Refused(refusal::OUTPUT_SHORT)
+    match wire {
+        [first, second, ..] => match (C::plain(*first), C::after(*second)) {
+            (Meaning::Waits, Meaning::Byte(byte)) => Some(byte),
+            _ => None,
+        },
+        _ => None,
     }
 }
 
-// What is read of a run of wire bytes: how many bytes it stands for, and how many wire bytes they take.
-#[derive(Clone, Copy)]
-pub struct Unhidden {
-    pub count: usize,
-    pub used: usize,
-}
-
-// Whether a byte after the escape byte hides one.
-fn is_code(escapes: Escapes, byte: u8) -> bool
-    ensures { result ≡ uncodes escapes byte }
-{
-    if byte <= escapes.top {
-        is_hidden(escapes, escapes.top - byte)
-    } else {
-        false
-    }
-}
-
-// Whether a hidden byte lies whole at a place.
-fn is_pair(escapes: Escapes, wire: &[u8], at: usize) -> bool
-    requires { at ≤ length wire.now }
-    ensures { result ≡ pair_at escapes wire.now at }
-{
-    if at + 1 < wire.len() {
-        if wire[at] == escapes.escape {
-            is_code(escapes, wire[at + 1])
-        } else {
-            false
-        }
-    } else {
-        false
-    }
-}
-
-// Stores the wire bytes from a place on that mean themselves, up to the first that does not and so many at most, and tells how many.
-fn copy_plain(
-    escapes: Escapes,
-    wire: &[u8],
-    from: usize,
-    out: &mut [u8],
-    at: usize,
-    most: usize,
-) -> usize
-    requires { (from ≤ length wire.now) × (at + most ≤ length out.old) }
-    ensures count { result ≡ min most (before escapes.first escapes.escape (drop from wire.now)) }
-    ensures put { out.new ≡ sets out.old at (take result (drop from wire.now)) }
-{
-    let stop = runs::least(most, wire.len() - from);
-    let mut k = 0;
-    while k < stop {
-        let byte = wire[from + k];
-        if is_hidden(escapes, byte) {
-            return k;
-        }
-        out[at + k] = byte;
-        k += 1;
-    }
-    k
-}
-
-// Stores what wire bytes stand for from a place on, as many bytes as come whole and so many at most.
-fn unhide_by(escapes: Escapes, wire: &[u8], out: &mut [u8], at: usize, most: usize) -> Unhidden
-    requires { (escapes.first ≤ escapes.escape) × (at + most ≤ length out.old) }
-    ensures count { result.count ≡ length (unhide_by escapes most wire.now).0 }
-    ensures used { result.used ≡ (unhide_by escapes most wire.now).1 }
-    ensures put { out.new ≡ sets out.old at (unhide_by escapes most wire.now).0 }
+// Stores what wire bytes stand for, as many bytes as come whole and as there is room for.
+fn unhide<C: Code>(wire: &[u8], out: &mut [u8]) -> Unhidden
+    ensures count { result.count ≡ length (unhide_up_to C.code (length out.old) wire.now).0 }
+    ensures used { result.used ≡ (unhide_up_to C.code (length out.old) wire.now).1 }
+    ensures put { out.new ≡ sets out.old 0 (unhide_up_to C.code (length out.old) wire.now).0 }
 {
     let mut count: usize = 0;
-    let mut i: usize = 0;
+    let mut used: usize = 0;
+    // no `for`: a turn takes a run of bytes and then a pair
     loop {
-        let n = copy_plain(escapes, wire, i, out, at + count, most - count);
+        let n = runs::copy_before(
+            C::FIRST,
+            C::ESCAPE,
+            &wire[used..],
+            &mut out[count..],
+            0,
+            usize::MAX,
+        );
         count += n;
-        i += n;
-        if count == most {
-            return Unhidden {
-                count: count,
-                used: i,
-            };
+        used += n;
+        if count == out.len() {
+            break;
         }
-        if is_pair(escapes, wire, i) {
-            out[at + count] = escapes.top - wire[i + 1];
-            count += 1;
-            i += 2;
-        } else {
-            return Unhidden {
-                count: count,
-                used: i,
-            };
-        }
+        let Some(byte) = first_hidden::<C>(&wire[used..]) else {
+            break;
+        };
+        out[count] = byte;
+        count += 1;
+        used += 2;
     }
-}
-
-// The same, as far as the memory goes.
-fn unhide_within(escapes: Escapes, wire: &[u8], out: &mut [u8], at: usize, most: usize) -> Unhidden
-    requires { escapes.first ≤ escapes.escape }
-    ensures count { result.count ≡ length (unhide_by escapes (min most (length out.old - at)) wire.now).0 }
-    ensures used { result.used ≡ (unhide_by escapes (min most (length out.old - at)) wire.now).1 }
-    ensures put { out.new
-        ≡ sets out.old at (unhide_by escapes (min most (length out.old - at)) wire.now).0 }
-{
-    if at <= out.len() {
-        let room = runs::least(most, out.len() - at);
-        unhide_by(escapes, wire, out, at, room)
-    } else {
-        Unhidden { count: 0, used: 0 }
-    }
-}
-
-// How many wire bytes DLE bytes take.
-pub fn dle_hidden_length(bytes: &[u8]) -> usize
-    ensures { result ≡ length (hide dle bytes.now) }
-{
-    length_by(DLE, bytes)
-}
-
-// Stores DLE bytes hidden from a place on; where they do not fit there, stores nothing.
-pub fn dle_hide_into(bytes: &[u8], out: &mut [u8], at: usize) -> Answer
-    ensures { (outcome_of result, out.new) ≡ stored_at (hide dle bytes.now) out.old at }
-{
-    hide_by(DLE, bytes, out, at)
-}
-
-// How many wire bytes expansion bytes take.
-pub fn expansion_hidden_length(bytes: &[u8]) -> usize
-    ensures { result ≡ length (hide expansion bytes.now) }
-{
-    length_by(EXPANSION, bytes)
-}
-
-// Stores expansion bytes hidden from a place on; where they do not fit there, stores nothing.
-pub fn expansion_hide_into(bytes: &[u8], out: &mut [u8], at: usize) -> Answer
-    ensures { (outcome_of result, out.new) ≡ stored_at (hide expansion bytes.now) out.old at }
-{
-    hide_by(EXPANSION, bytes, out, at)
-}
-
-// Stores what DLE wire bytes stand for from a place on, as many as come whole and fit there, and so many at most.
-pub fn dle_unhide_into(wire: &[u8], out: &mut [u8], at: usize, most: usize) -> Unhidden
-    ensures count { result.count ≡ length (unhide_into dle wire.now out.old at most).0 }
-    ensures used { result.used ≡ (unhide_into dle wire.now out.old at most).1 }
-    ensures put { out.new ≡ sets out.old at (unhide_into dle wire.now out.old at most).0 }
-{
-    unhide_within(DLE, wire, out, at, most)
-}
-
-// Stores what expansion wire bytes stand for from a place on, as many as come whole and fit there, and so many at most.
-pub fn expansion_unhide_into(wire: &[u8], out: &mut [u8], at: usize, most: usize) -> Unhidden
-    ensures count { result.count ≡ length (unhide_into expansion wire.now out.old at most).0 }
-    ensures used { result.used ≡ (unhide_into expansion wire.now out.old at most).1 }
-    ensures put { out.new
-        ≡ sets out.old at (unhide_into expansion wire.now out.old at most).0 }
-{
-    unhide_within(EXPANSION, wire, out, at, most)
+    Unhidden { count, used }
 }

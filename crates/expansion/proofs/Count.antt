@@ -7,14 +7,11 @@ use lib.ListN.{length, length-append, length-take}
 use Rattle.runs.proofs.Cases.{by_eqb, by_ltb}
 use Rattle.framing.specs.Segment.{Segment}
 use Rattle.framing.specs.declared.State.{State}
-use Rattle.framing.proofs.States.{count_within}
 use Rattle.escape.specs.Code.{Meaning, byte, waits, start, end, wrong, meaning}
 use Rattle.escape.specs.Expansion.{expansion}
 use Rattle.expansion.specs.Frame.{Message}
 use Rattle.expansion.specs.Rules.{Phase, hunting, inside, size, gathered, held, act, on_byte}
-use Rattle.expansion.specs.Contract.{mode_of, phase_of}
-use Rattle.expansion.specs.Steps.{ByRules}
-use Rattle.expansion.specs.declared.Stepped.{Stepped}
+use Rattle.expansion.specs.Contract.{phase_of}
 
 abbrev Sized : Phase × Option (Segment Message) → Type 0
 Sized r = length (gathered r.0) ≤ size
@@ -33,7 +30,3 @@ byte_sized (inside w g) b h = act_sized g (held (inside w g)) (held (inside w g)
 pub counted : (s : State) (store : List ℕ) → length (gathered (phase_of s store)) ≤ s.count
 counted s store =
     by_eqb (λ (p : Phase). length (gathered p) ≤ s.count) s.mode 0 (λ _. omega arith) (λ _. simp length-take (omega arith))
-
-pub count_next : (s : State) (store : List ℕ) (b : ℕ) (r : Stepped) (after : List ℕ) → ByRules s store (on_byte (phase_of s store) b) r after → s.count ≤ size
-    → r.state.count ≤ size
-count_next s store b r after a h = count_within mode_of gathered held phase_of on_byte size counted byte_sized s r.state store b h a.state

@@ -1,12 +1,14 @@
 -- The end of a frame: what is accepted is the body and the CRC of a message that may be sent, and each such message is accepted.
-use Prim.Native.Nat.{ℕ, zero, suc, ◌+◌, ◌-◌, ◌≤◌}
+use Prim.Native.Nat.{ℕ, zero, suc, ◌+◌, ◌-◌, ◌/◌, ◌%◌, ◌≤◌}
 use mathlib.Core.Path.{◌≡◌, refl, ap, sym, ◌∙◌}
 use mathlib.Core.Bool.{true, ◌&&◌}
 use mathlib.Core.List.{List, [], ◌∷◌, ◌++◌}
 use native.Mathlib.Omega.{arith}
 use lib.Dec.{leb}
 use lib.ListN.{length, get_or, take, drop, length-append, length-drop, take-append-drop}
-use lib.Seq.{take_at, drop_at, take-add, length-take-le}
+use lib.Seq.{take_at, drop_at, take-add, length-take-le, get_or-drop}
+use Rattle.std.specs.Int.{from_le_bytes}
+use Rattle.std.proofs.Common.{w32}
 use borrow.Author.Tests.{le-leb, eq-eqb, eqb-true, leb-true}
 use Rattle.runs.specs.Runs.{Bytes}
 use Rattle.runs.specs.Number.{little_endian, bytes_of}
@@ -111,3 +113,36 @@ module _ (m : Message) (t : Typed m) where
   judge-content h wire =
       let p : Passed (content m) = record { long = omega (arith, content-length m); checked = check_content; fields = fields_content h } in
       rw (eq-eqb (fault_of (content m)) 0 (no_fault (content m) p)) (ap accepted_frame message_content)
+
+-- the bytes of a number of 32 bits, as the library has them
+pub four_bytes : (n : ℕ) → n % 256 ∷ n / 256 % 256 ∷ n / 65536 % 256 ∷ n / 16777216 % 256 ∷ [] ≡ bytes_of 4 n
+unfolding bytes_of
+four_bytes n =
+    let third : n / 65536 ≡ n / 256 / 256 = omega arith in
+    let fourth : n / 16777216 ≡ n / 256 / 256 / 256 = omega arith in
+    λ i. n % 256 ∷ n / 256 % 256 ∷ third i % 256 ∷ fourth i % 256 ∷ []
+
+-- and back
+pub four_read : (a b c d : ℕ) → from_le_bytes w32 (a ∷ b ∷ c ∷ d ∷ []) ≡ little_endian (a ∷ b ∷ c ∷ d ∷ [])
+unfolding little_endian
+four_read a b c d = omega arith
+
+-- the last four gathered bytes, by their places
+pub last_four : (g : List ℕ) → 8 ≤ length g
+    → get_or g (length g - 4) 0 ∷ get_or g (length g - 3) 0 ∷ get_or g (length g - 2) 0 ∷ get_or g (length g - 1) 0 ∷ [] ≡ drop (length g - 4) g
+last_four g long =
+    let one : length g - 4 ≡ length g - 4 + 0 = omega arith in
+    let two : length g - 3 ≡ length g - 4 + 1 = omega arith in
+    let three : length g - 2 ≡ length g - 4 + 2 = omega arith in
+    let last : length g - 1 ≡ length g - 4 + 3 = omega arith in
+    let places = λ (k j : ℕ) (e : k ≡ length g - 4 + j). ap (λ (i : ℕ). get_or g i 0) e ∙ sym (get_or-drop (length g - 4) g j 0) in
+    (λ i. places _ 0 one i ∷ places _ 1 two i ∷ places _ 2 three i ∷ places _ 3 last i ∷ [])
+    ∙ sym (four_all (drop (length g - 4) g) (simp length-drop (omega arith)))
+  where
+    four_all : (t : List ℕ) → length t ≡ 4 → t ≡ get_or t 0 0 ∷ get_or t 1 0 ∷ get_or t 2 0 ∷ get_or t 3 0 ∷ []
+    four_all [] h = absurd (omega arith)
+    four_all (a ∷ []) h = absurd (omega arith)
+    four_all (a ∷ b ∷ []) h = absurd (omega arith)
+    four_all (a ∷ b ∷ c ∷ []) h = absurd (omega arith)
+    four_all (a ∷ b ∷ c ∷ d ∷ []) h = refl
+    four_all (a ∷ b ∷ c ∷ d ∷ e ∷ t) h = absurd (omega arith)

@@ -18,7 +18,7 @@ use Rattle.escape.specs.Expansion.{expansion}
 use Rattle.expansion.specs.Frame.{Message, Typed, frame}
 use Rattle.expansion.specs.Rules.{Phase, hunting, inside, size, gathered, held}
 use Rattle.expansion.specs.Contract.{mode_of, phase_of, link}
-use Rattle.escape.proofs.Expansion.{expansion_bytes}
+use Rattle.escape.proofs.ExpansionTheorems.{expansion_bytes}
 use Rattle.expansion.proofs.Judge.{content, content_bytes}
 use Rattle.expansion.proofs.OnByte.{Good, reached, takes}
 use Rattle.expansion.proofs.Readback.{reads-frame}

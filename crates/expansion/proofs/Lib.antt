@@ -1,6 +1,6 @@
 -- `Meanings`: the code of the link as its rules use it. `Passed`: the tests at the end of a frame. `Judge`: the end of a frame. `OnByte`: what each
--- byte does. `Readback`: a frame is read back. `Lawful`, `Refused`, `Numbers`, `Places` which numbers it gives and what it leaves in the store, `Theorems`: the claims. `Count`, `Passing`: for the receiver's code. `Laid`: for
--- the writer's.
+-- byte does. `Readback`: a frame is read back. `Lawful`, `Refused`, `Numbers`, `Places` which numbers it gives and what it leaves in the store,
+-- `Theorems`: the claims. `Count`, `Steps`, `Passing`: for the receiver's code.
 pub mod Meanings
 pub mod Passed
 pub mod Judge
@@ -13,5 +13,5 @@ pub mod Places
 pub mod Refused
 pub mod Theorems
 pub mod Count
-pub mod Laid
+pub mod Steps
 pub mod Passing

@@ -6,7 +6,7 @@ use lib.Dec.{lit<}
 use Rattle.runs.proofs.Cases.{by_eqb}
 use Rattle.escape.specs.Code.{Meaning, byte, waits, start, end, wrong, meaning}
 use Rattle.escape.specs.Expansion.{expansion}
-use Rattle.escape.proofs.Expansion.{by_byte}
+use Rattle.escape.specs.Laws.{by_byte}
 
 -- what is known of a wire byte by its meaning, with an FF waiting or not
 abbrev pub Meant : Bool → ℕ → Meaning → Type 0

@@ -15,7 +15,7 @@ use Rattle.framing.proofs.Byte.{data_stands, Reached, Takes, goes_on, restarts, 
 use Rattle.escape.specs.Code.{Meaning, byte, waits, start, end, wrong, meaning, hide}
 use Rattle.escape.specs.Expansion.{hide_byte, expansion}
 use Rattle.escape.proofs.Lawful.{hide-more, hide_short}
-use Rattle.escape.proofs.Expansion.{expansion_lawful}
+use Rattle.escape.specs.Laws.{expansion_lawful}
 use Rattle.expansion.specs.Frame.{Message, ok, body, trailer, enclose}
 use Rattle.expansion.specs.Rules.{Phase, hunting, inside, size, gathered, held, fault_of, judge, gather, act, on_byte}
 use Rattle.expansion.specs.Contract.{numbers_of, message_of, link}

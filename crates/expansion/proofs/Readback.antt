@@ -14,7 +14,7 @@ use Rattle.framing.proofs.Segments.{step, step_accept}
 use Rattle.framing.proofs.Lawful.{at}
 use Rattle.escape.specs.Code.{byte, waits, meaning, hide}
 use Rattle.escape.specs.Expansion.{expansion}
-use Rattle.escape.proofs.Expansion.{expansion_lawful}
+use Rattle.escape.specs.Laws.{expansion_lawful}
 use Rattle.escape.proofs.Gathered.{gathers}
 use Rattle.expansion.specs.Frame.{Message, Typed, ok, frame}
 use Rattle.expansion.specs.Rules.{hunting, inside, size, held, act, on_byte}

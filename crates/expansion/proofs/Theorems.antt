@@ -3,7 +3,7 @@
 use Rattle.framing.proofs.Refusals as any
 use Rattle.framing.proofs.Places as Places
 use mathlib.Core.List.{[]}
-use Rattle.escape.proofs.Expansion.{expansion_bound}
+use Rattle.escape.proofs.ExpansionTheorems.{expansion_bound}
 use Rattle.checksum.specs.Claims.{Crc32Detects}
 use Rattle.checksum.proofs.CheckValue.{crc32_detects}
 use Rattle.expansion.specs.Contract.{link}

@@ -1,15 +1,12 @@
 -- What the functions of the expansion link answer and leave, for every input.
 use Rattle.std.specs.Prelude.{ℕ, cond, List, length, take, eqb}
 use Rattle.framing.specs.State.{fresh_state, known_state, state_after}
-use Rattle.framing.specs.Link.{Link, Lent, Told, nothing, accepted, refused, data_at}
+use Rattle.framing.specs.Link.{Link, data_at}
 use Rattle.framing.specs.declared.State.{State}
 use Rattle.expansion.specs.Frame.{Typed, with_fields, ok, frame}
 use Rattle.expansion.specs.Frame as Frame
 use Rattle.expansion.specs.Rules.{Phase, hunting, inside, size, gathered, held, on_byte}
 use Rattle.expansion.specs.declared.Message.{Message}
-use Rattle.expansion.specs.declared.Event.{Event}
-use Rattle.expansion.specs.declared.Event.TheVariants.{Nothing, Accepted, Refused}
-use Rattle.expansion.specs.declared.Received.{Received}
 
 -- the number of each phase: 0 hunting, 1 open, 2 open after an FF
 abbrev pub mode_of : Phase → ℕ
@@ -58,13 +55,3 @@ link =
       numbers_of = numbers_of;
       message_of = message_of;
     }
-
--- each case of the receiver's answer
-abbrev pub told_of : Event → Told Message
-told_of Nothing = nothing
-told_of (Accepted m) = accepted m
-told_of (Refused n) = refused n
-
--- an answer with the store after the call
-abbrev pub received_of : Received → List ℕ → Told Message × ℕ × Lent link
-received_of r store = (told_of r.event, r.used, (r.state, store))

@@ -6,7 +6,7 @@ use Rattle.runs.specs.Runs.{between, before}
 use Rattle.runs.proofs.Bytes.{part_rest}
 use Rattle.runs.proofs.Before.{before_within, before-not}
 use Rattle.runs.proofs.Run.{sets_more}
-use Rattle.framing.specs.Link.{Link, Lent, nothing, told, step_on}
+use Rattle.framing.specs.Link.{Link, Lent, step_on}
 use Rattle.framing.specs.Passing.{Leads}
 use Rattle.framing.proofs.Loop.{passed-more}
 
@@ -17,13 +17,13 @@ module _ (L : Link) where
     pub onward : i ≤ j
     pub within : j ≤ length piece
     pub same_length : length after ≡ length store
-    pub passes : (o z : ℕ) → o < 2 ^ 32 → Leads L piece (opened m o z, store) i (opened n ((o + (j - i)) % 2 ^ 32) z, after) j
+    pub passes : (o z : ℕ) → o < 2 ^ 32 → Leads (step_on L) piece (opened m o z, store) i (opened n ((o + (j - i)) % 2 ^ 32) z, after) j
 
 module _ (L : Link) (piece : List ℕ) where
-  pub leads_none : (c : Lent L) (i : ℕ) → i ≤ length piece → Leads L piece c i c i
+  pub leads_none : (c : Lent L) (i : ℕ) → i ≤ length piece → Leads (step_on L) piece c i c i
   leads_none c i h = record { onward = omega arith; within = h; same_length = refl; passes = λ c₀ p. p }
 
-  pub leads_then : {c d e : Lent L} {i j k : ℕ} → Leads L piece c i d j → Leads L piece d j e k → Leads L piece c i e k
+  pub leads_then : {c d e : Lent L} {i j k : ℕ} → Leads (step_on L) piece c i d j → Leads (step_on L) piece d j e k → Leads (step_on L) piece c i e k
   leads_then l m =
       record {
         onward = omega (arith, l.onward, m.onward);
@@ -34,25 +34,25 @@ module _ (L : Link) (piece : List ℕ) where
 
   -- a byte that makes no event
   pub leads_byte : (c d : Lent L) (i : ℕ) → i < length piece → length d.1 ≡ length c.1 → step_on L c (get_or piece i 0) ≡ (d, none)
-      → Leads L piece c i d (i + 1)
+      → Leads (step_on L) piece c i d (i + 1)
   leads_byte c d i h s e =
       record {
         onward = omega arith;
         within = omega arith;
         same_length = s;
-        passes = λ c₀ p. passed-more L c₀ c d piece i nothing h p (ap (λ r. told L r.1) (sym e)) (ap (λ r. r.0) (sym e)) refl;
+        passes = λ c₀ p. passed-more (step_on L) c₀ c piece i h p d (ap (λ r. r.0) (sym e)) (ap (λ r. r.1) e);
       }
 
   -- a run of them, where c k is what k of them lead to
   module _ (c : ℕ → Lent L) (i : ℕ) (long : (k : ℕ) → length (c k).1 ≡ length (c 0).1) where
     pub leads_run : (n : ℕ) → i + n ≤ length piece → ((k : ℕ) → k < n → step_on L (c k) (get_or piece (i + k) 0) ≡ (c (k + 1), none))
-        → Leads L piece (c 0) i (c n) (i + n)
+        → Leads (step_on L) piece (c 0) i (c n) (i + n)
     leads_run zero h quiet = rw add-zero (leads_none (c 0) i (omega arith))
     leads_run (suc n) h quiet =
         let next : i + n + 1 ≡ i + suc n = omega arith in
         leads_then (leads_run n (omega arith) (λ k l. quiet k (omega arith)))
-        (subst (λ (d : Lent L). Leads L piece (c n) (i + n) d (i + suc n)) (ap c (add-one n))
-        (subst (Leads L piece (c n) (i + n) (c (n + 1))) next
+        (subst (λ (d : Lent L). Leads (step_on L) piece (c n) (i + n) d (i + suc n)) (ap c (add-one n))
+        (subst (Leads (step_on L) piece (c n) (i + n) (c (n + 1))) next
         (leads_byte (c n) (c (n + 1)) (i + n) (omega arith) (long (n + 1) ∙ sym (long n)) (quiet n (omega arith)))))
 
   -- what is left of the piece from place i on, as a function that is lent it has it
@@ -73,7 +73,7 @@ module _ (L : Link) (piece : List ℕ) where
   -- noise before the first mark, where each byte that is no mark is noise: on k is the state after k of them
   pub leads_before : (low high : ℕ) (on : ℕ → L.State) (store : List ℕ) (i n : ℕ) → i ≤ length piece → n ≤ before low high (left i)
       → ((k b : ℕ) → between low high b ≡ false → step_on L (on k, store) b ≡ ((on (k + 1), store), none))
-      → Leads L piece (on 0, store) i (on n, store) (i + n)
+      → Leads (step_on L) piece (on 0, store) i (on n, store) (i + n)
   leads_before low high on store i n h l quiet =
       leads_run (λ k. (on k, store)) i (λ k. refl) n (marks_within low high i n h l)
       (λ k less. quiet k (get_or piece (i + k) 0) (no_mark low high i n h l k less))
@@ -87,7 +87,7 @@ module _ (L : Link) (piece : List ℕ) where
           same_length = refl;
           passes = λ o z l.
               let e : o ≡ (o + (i - i)) % 2 ^ 32 = omega arith in
-              subst (λ (k : ℕ). Leads L piece (opened m o z, store) i (opened m k z, store) i) e (leads_none (opened m o z, store) i h);
+              subst (λ (k : ℕ). Leads (step_on L) piece (opened m o z, store) i (opened m k z, store) i) e (leads_none (opened m o z, store) i h);
         }
 
     pub gathers_then : {store mid after : List ℕ} {m i n j p k : ℕ} → Gathers L opened piece store m i mid n j → Gathers L opened piece mid n j after p k
@@ -99,7 +99,7 @@ module _ (L : Link) (piece : List ℕ) where
           same_length = h.same_length ∙ g.same_length;
           passes = λ o z l.
               let e : ((o + (j - i)) % 2 ^ 32 + (k - j)) % 2 ^ 32 ≡ (o + (k - i)) % 2 ^ 32 = omega (arith, g.onward, h.onward) in
-              subst (λ (q : ℕ). Leads L piece (opened m o z, store) i (opened p q z, after) k) e
+              subst (λ (q : ℕ). Leads (step_on L) piece (opened m o z, store) i (opened p q z, after) k) e
               (leads_then (g.passes o z l) (h.passes ((o + (j - i)) % 2 ^ 32) z (omega arith)));
         }
 
@@ -117,8 +117,8 @@ module _ (L : Link) (piece : List ℕ) where
               let first : m + 0 ≡ m = omega arith in
               let fresh : (o + 0) % 2 ^ 32 ≡ o = omega arith in
               let last : (o + n) % 2 ^ 32 ≡ (o + (i + n - i)) % 2 ^ 32 = omega arith in
-              subst (λ (q : ℕ). Leads L piece (opened m o z, store) i (opened (m + n) q z, sets store m (take n run)) (i + n)) last
-              (subst (λ (x : L.State). Leads L piece (x, store) i (on o z n) (i + n)) (λ j. opened (first j) (fresh j) z)
+              subst (λ (q : ℕ). Leads (step_on L) piece (opened m o z, store) i (opened (m + n) q z, sets store m (take n run)) (i + n)) last
+              (subst (λ (x : L.State). Leads (step_on L) piece (x, store) i (on o z n) (i + n)) (λ j. opened (first j) (fresh j) z)
               (leads_run (on o z) i (λ k. length-sets store m (take k run)) n h
               (λ k less.
               let count : m + k + 1 ≡ m + (k + 1) = omega arith in
@@ -151,7 +151,7 @@ module _ (L : Link) (piece : List ℕ) where
 
     -- the numbers of a state of an open frame before and after
     pub gathers_leads : (s r : L.State) (store after : List ℕ) (m o z i n j : ℕ) → o < 2 ^ 32 → s ≡ opened m o z → r ≡ opened n ((o + (j - i)) % 2 ^ 32) z
-        → Gathers L opened piece store m i after n j → Leads L piece (s, store) i (r, after) j
+        → Gathers L opened piece store m i after n j → Leads (step_on L) piece (s, store) i (r, after) j
     gathers_leads s r store after m o z i n j l e f g =
-        subst (λ (x : L.State). Leads L piece (x, store) i (r, after) j) (sym e)
-        (subst (λ (x : L.State). Leads L piece (opened m o z, store) i (x, after) j) (sym f) (g.passes o z l))
+        subst (λ (x : L.State). Leads (step_on L) piece (x, store) i (r, after) j) (sym e)
+        (subst (λ (x : L.State). Leads (step_on L) piece (opened m o z, store) i (x, after) j) (sym f) (g.passes o z l))

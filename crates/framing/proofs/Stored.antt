@@ -1,11 +1,19 @@
 -- What a call that stores a run answers and leaves, for its callers.
-use Rattle.std.proofs.Common.{◌≡◌, ℕ, ◌+◌, ◌<◌, ◌≤◌, Bool, true, false, leb, List, length, sym, refl, ap, ◌∙◌, arith, le-leb, leb-false, leb-true}
+use Rattle.std.proofs.Common.{◌≡◌, ℕ, ◌+◌, ◌<◌, ◌≤◌, Bool, true, false, leb, List, ◌++◌, length, take, drop, sym, refl, ap, ◌∙◌, append_assoc, arith, le-leb, leb-false, leb-true}
 use mathlib.Core.Bool.{false≢true}
-use lib.Seq.{sets}
+use lib.Seq.{sets, sets-eq, drop-drop}
+use borrow.Rule.Slice.PartMut.{put_mid}
 use borrow.Author.Tests.{lt-leb}
 use Rattle.framing.specs.Answer.{Outcome, done, refused, count_of, stored_at}
 use Rattle.framing.specs.Writer.{writes}
 use Rattle.framing.proofs.Tests.{by_two}
+
+-- a run copied into k places of memory from `at` on, where `part` is what they hold then
+pub part_copied : (memory run part : List ℕ) (at k : ℕ) → at + k ≤ length memory → k ≡ length run → part ≡ run → put_mid at k memory part ≡ sets memory at run
+part_copied memory run part at k h e f =
+    rw (e, f)
+    (ap (λ (l : List ℕ). take at memory ++ (run ++ l)) (drop-drop (length run) at memory)
+    ∙ sym (append_assoc (take at memory) run (drop (at + length run) memory)) ∙ sym (sets-eq run memory at (omega arith)))
 
 module _ (run memory : List ℕ) (at : ℕ) where
   pub stored_done : at + length run ≤ length memory → stored_at run memory at ≡ (done (length run), sets memory at run)

@@ -1,17 +1,20 @@
 -- The answer of a call: a value, or a number of 01's table. Of a call that makes bytes the value is how many.
-use Rattle.std.specs.Prelude.{ℕ, ◌+◌, cond, List, length, nat_le}
+use Rattle.std.specs.Prelude.{ℕ, ◌+◌, cond, List, length, nat_le, Result, Ok, Err}
 use Rattle.std.proofs.lemmas.List.Edits.{sets}
-use Rattle.framing.specs.declared.Answer.{Answer}
-use Rattle.framing.specs.declared.Answer.TheVariants as answer
+use Rattle.framing.specs.Number.{number_of}
+use Rattle.framing.specs.declared.refusal.Refusal.{Refusal}
 
 pub data Outcome (A : Type 0) : Type 0 where
   done : A → Outcome A
   refused : ℕ → Outcome A
 
--- each case of the enum: the count of bytes made, or the number of the refusal
-abbrev pub outcome_of : Answer → Outcome ℕ
-outcome_of (answer.Done n) = done n
-outcome_of (answer.Refused n) = refused n
+-- each case of an answer in code: the value, or the number that stands for a refusal
+abbrev pub outcome_by : {A E : Type 0} → (E → ℕ) → Result A E → Outcome A
+outcome_by number (Ok v) = done v
+outcome_by number (Err r) = refused (number r)
+
+abbrev pub outcome_of : {A : Type 0} → Result A Refusal → Outcome A
+outcome_of = outcome_by number_of
 
 -- how many bytes were made: none by a refusal
 abbrev pub count_of : Outcome ℕ → ℕ

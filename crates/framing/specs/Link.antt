@@ -43,7 +43,7 @@ pub data Told (N : Type 0) : Type 0 where
   accepted : N → Told N
   refused : ℕ → Told N
 
--- whether it is an event, for the private functions of the links
+-- whether it is an event, for the loop over a piece
 abbrev pub is_event : {N : Type 0} → Told N → Bool
 is_event nothing = false
 is_event (accepted v) = true

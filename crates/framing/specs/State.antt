@@ -20,7 +20,7 @@ abbrev pub after_noise : State → ℕ → State
 after_noise s n = cond (n == 0) s (record { mode = 0; count = 0; «open» = 0; noise = (s.noise + n) % 2 ^ 32 })
 
 -- what noise from place i of a piece on leads to, up to the mark: the state after it, and the place of the mark or the end
-abbrev pub hunted_from : State → List ℕ → ℕ → ℕ → Reached
+abbrev pub hunted_from : State → List ℕ → ℕ → ℕ → Reached State
 hunted_from s piece i mark = record { state = after_noise s (before mark mark (drop i piece)); next = i + before mark mark (drop i piece) }
 
 -- the wire bytes held after a byte: those now held, where it closed a segment or came in plain hunting (mode 0; the papers leave free what was

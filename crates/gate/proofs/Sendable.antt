@@ -8,7 +8,7 @@ use Rattle.framing.specs.Link.{write_on}
 use Rattle.framing.proofs.Stored.{by_writer}
 use Rattle.escape.specs.Expansion as Escape
 use Rattle.escape.proofs.Lawful.{hide_short}
-use Rattle.escape.proofs.Expansion.{expansion_lawful}
+use Rattle.escape.specs.Laws.{expansion_lawful}
 use Rattle.expansion.specs.Frame.{kind_ok, ok, body, trailer, frame}
 use Rattle.expansion.specs.Frame as Frame
 use Rattle.expansion.specs.Contract.{link}

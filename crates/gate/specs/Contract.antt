@@ -1,52 +1,65 @@
--- What the functions of the crate answer: the states of the code as the rules have them, and each case of its enums with 01's number and values.
+-- What the functions of the crate answer: the states of the code as the rules have them, and each case of its types with 01's number and values.
+use Rattle.std.specs.Prelude.{ℕ, [], cond, ◌==◌, Result, Ok, Err, Some, None}
+use Rattle.std.specs.Prelude as Code
 use Rattle.std.proofs.Math.Option.{Option, none, some}
-use Rattle.std.specs.Prelude.{[]}
+use Rattle.framing.specs.Number.{number_of}
+use Rattle.framing.specs.declared.refusal.Refusal.{Refusal}
 use Rattle.expansion.specs.Frame as Frame
 use Rattle.gate.specs.Asking as Asking
 use Rattle.gate.specs.Responder as Responder
 use Rattle.gate.specs.Chain as Chain
-use Rattle.gate.specs.declared.Exchange.{Exchange}
-use Rattle.gate.specs.declared.Asked.{Asked}
-use Rattle.gate.specs.declared.Asked.TheVariants as asked
-use Rattle.gate.specs.declared.Stepped.{Stepped}
-use Rattle.gate.specs.declared.Responder.{Responder as State}
-use Rattle.gate.specs.declared.Reply.{Reply}
-use Rattle.gate.specs.declared.Reply.TheVariants as reply
-use Rattle.gate.specs.declared.Response.{Response}
-use Rattle.gate.specs.declared.Hop.{Hop}
-use Rattle.gate.specs.declared.Hop.TheVariants as hop
+use Rattle.gate.specs.declared.asking.Exchange.{Exchange}
+use Rattle.gate.specs.declared.asking.Asked.{Asked}
+use Rattle.gate.specs.declared.asking.Asked.TheVariants.{Send, Done, GaveUp}
+use Rattle.gate.specs.declared.kind.Kind.{Kind}
+use Rattle.gate.specs.declared.kind.Kind.TheVariants.{Request, Acknowledgement, CheckError}
+use Rattle.gate.specs.declared.responding.Responder.{Responder as State}
+use Rattle.gate.specs.declared.responding.Reply.{Reply}
+use Rattle.gate.specs.declared.responding.Response.{Response}
 
 -- the asking end's state
 abbrev pub exchange_of : Exchange → Asking.Exchange
 exchange_of e = record { mode = e.mode; id = e.id; repeat = e.repeat; sent = e.sent }
 
--- each case of what it is told
-abbrev pub asked_of : Asked → Asking.Asked
-asked_of (asked.Send id repeat) = Asking.send id repeat
-asked_of asked.Done = Asking.done
-asked_of asked.GaveUp = Asking.gave_up
-asked_of asked.Nothing = Asking.nothing
-asked_of (asked.Refused n) = Asking.refused n
+-- each case of what it is told, if anything
+abbrev pub case_of : Asked → Asking.Asked
+case_of (Send id repeat) = Asking.send id repeat
+case_of Done = Asking.done
+case_of GaveUp = Asking.gave_up
 
--- the answer of a step: what is told, and the state after
-abbrev pub stepped_of : Stepped → Asking.Asked × Asking.Exchange
-stepped_of r = (asked_of r.asked, exchange_of r.state)
+abbrev pub asked_of : Result (Code.Option Asked) Refusal → Asking.Asked
+asked_of (Ok None) = Asking.nothing
+asked_of (Ok (Some a)) = case_of a
+asked_of (Err r) = Asking.refused (number_of r)
+
+-- the byte of each type of message, and the type that a byte is
+abbrev pub type_of : Kind → ℕ
+type_of Request = 0
+type_of Acknowledgement = 1
+type_of CheckError = 2
+
+abbrev pub kind_in : ℕ → Result Kind ℕ
+kind_in byte = cond (byte == 0) (Ok Request) (cond (byte == 1) (Ok Acknowledgement) (cond (byte == 2) (Ok CheckError) (Err byte)))
 
 -- the responding end's state
 abbrev pub responder_of : State → Responder.Responder
 responder_of a = record { handed = a.handed; last = a.last }
 
--- each case of a reply: none, or a message of this id, type and address, with repeat 0 and no data
-abbrev pub reply_of : Reply → Option Frame.Message
-reply_of reply.Nothing = none
-reply_of (reply.Send id kind address) = some (Frame.with_fields id kind 0 address [])
+-- a reply, if any: a message of this id, type and address, with repeat 0 and no data
+abbrev pub reply_of : Code.Option Reply → Option Frame.Message
+reply_of None = none
+reply_of (Some r) = some (Frame.with_fields r.id (type_of r.kind) 0 r.address [])
 
--- the answer of the responding end: the reply, whether the request is handed out, the state after
-abbrev pub response_of : Response → Responder.Response
-response_of r = record { reply = reply_of r.reply; hands_out = r.handed_out; after = responder_of r.state }
+-- the answer of the responding end, and its state after
+abbrev pub response_of : Response → State → Responder.Response
+response_of r a = record { reply = reply_of r.reply; hands_out = r.handed_out; after = responder_of a }
 
--- each case of a step along the chain
-abbrev pub hop_of : Hop → Chain.Hop
-hop_of hop.Here = Chain.here
-hop_of (hop.Onward address) = Chain.onward address
-hop_of (hop.Refused n) = Chain.refused n
+-- a step down the chain: an address to go on with, or none where the frame is meant for here; and a step up, which always goes on
+abbrev pub hop_of : Result (Code.Option ℕ) Refusal → Chain.Hop
+hop_of (Ok None) = Chain.here
+hop_of (Ok (Some address)) = Chain.onward address
+hop_of (Err r) = Chain.refused (number_of r)
+
+abbrev pub onward_of : Result ℕ Refusal → Chain.Hop
+onward_of (Ok address) = Chain.onward address
+onward_of (Err r) = Chain.refused (number_of r)

@@ -9,7 +9,7 @@ use Rattle.runs.proofs.Cases.{and_both}
 use Rattle.framing.specs.Link.{Link}
 use Rattle.escape.proofs.Lawful.{hide_short}
 use Rattle.escape.specs.Dle.{dle}
-use Rattle.escape.proofs.Dle.{dle_lawful}
+use Rattle.escape.specs.Laws.{dle_lawful}
 use Rattle.pcs.specs.Contract as Pcs
 use Rattle.pcs.specs.Frame.{ok}
 use Rattle.pcs.proofs.Theorems as pcs

@@ -18,9 +18,13 @@ abbrev pub encode : {N : Type 0} → (N → ℕ) → Outcome N → ℕ
 encode code (done v) = code v
 encode code (refused n) = n
 
+-- a read's answer as one number, and the store afterwards
+abbrev pub coded : {N : Type 0} → (N → ℕ) → Outcome N × List ℕ → ℕ × List ℕ
+coded code r = (encode code r.0, r.1)
+
 -- the call: what is answered, and the store afterwards
 abbrev pub reads : (L : Link) → (L.Numbers → ℕ) → List ℕ → List ℕ → ℕ × List ℕ
-reads L code run store = (encode code (read_on L run store).0, (read_on L run store).1)
+reads L code run store = coded code (read_on L run store)
 
 -- PCS: the kind; whether with a CRC; receiver, sender, number, sender's port, receiver's port
 abbrev pub pcs_code : Pcs.Message → ℕ

@@ -1,26 +1,23 @@
 // The calls of a host that is written in C: numbers and byte slices only. include/linebox.h is their header, and host_c exports them.
 #![tactic(auto)]
 
-ghost use Rattle.std.specs.Prelude.{◌≡◌, cond, [], ◌∷◌, ◌*◌, ◌^◌};
+ghost use Rattle.std.specs.Prelude.{◌≡◌, ℕ, cond, ◌*◌, ◌^◌};
 ghost use Rattle.checksum.specs.Crc.{crc16_from};
 ghost use Rattle.framing.specs.Answer.{outcome_of};
-ghost use Rattle.framing.specs.Whole.{settle};
 ghost use Rattle.pcs.specs.Contract as Pcs;
 ghost use Rattle.pcs.specs.Frame as PcsFrame;
 ghost use Rattle.mdu.specs.Contract as Mdu;
 ghost use Rattle.dle.specs.Contract as Dle;
-ghost use Rattle.dle.specs.Frame.{content, error as errorMessage};
+ghost use Rattle.dle.specs.Frame.{content, error as error_message};
 ghost use Rattle.expansion.specs.Contract as Expansion;
 ghost use Rattle.expansion.specs.Frame as ExpansionFrame;
-ghost use Rattle.display.specs.Contract.{reading_of};
-ghost use Rattle.host.specs.Read.{packed, encode, reads, pcs_code, mdu_code, dle_code, expansion_code};
+ghost use Rattle.host.specs.Read.{packed, encode, coded, reads, pcs_code, mdu_code, dle_code, expansion_code};
 ghost use Rattle.host.specs.Write.{int32_of, writes_to, chosen};
 ghost use Rattle.host.specs.Steps.{Short};
 ghost use Rattle.host.specs.Display.{order_written, order_code, order_read, places_code};
 
-use display::{Order, Reading};
-use framing::{Answer, refusal};
-use pcs::Whole;
+use display::Order;
+use framing::{Answer, Link, Refusal};
 
 // The bit that tells of a CRC, at its place.
 fn crc_bit(crc: bool) -> u64
@@ -29,14 +26,105 @@ fn crc_bit(crc: bool) -> u64
     if crc { 4194304 } else { 0 }
 }
 
-// A message as one number.
-fn pack(size: usize, kind: u8, crc: bool, a: u8, b: u8, c: u8, d: u8, e: u8) -> u64
-    ensures { result ≡ packed size kind crc (a ∷ b ∷ c ∷ d ∷ e ∷ []) }
+// A message as one number; a field that a link does not have is 0.
+fn pack(size: usize, kind: u8, crc: bool, fields: [u8; 5]) -> u64
+    ensures { result ≡ packed size kind crc fields }
 {
-    let high = ((e as u64) * 256 + (d as u64)) * 256 + (c as u64);
-    let fields = (high * 256 + (b as u64)) * 256 + (a as u64);
-    let low = 256 * ((size % 4096) as u64) + 1048576 * ((kind % 4) as u64);
-    low + crc_bit(crc) + 16777216 * fields
+    let [a, b, c, d, _] = fields;
+    let high = (u64::from(fields[4]) * 256 + u64::from(d)) * 256 + u64::from(c);
+    let all = (high * 256 + u64::from(b)) * 256 + u64::from(a);
+    let low = 256 * ((size % 4096) as u64) + 1048576 * u64::from(kind % 4);
+    low + crc_bit(crc) + 16777216 * all
+}
+
+// What is read, as one number.
+trait Coded {
+    ghost code: { Self → ℕ };
+
+    fn code(self) -> u64
+        ensures { result ≡ code self };
+}
+
+impl Coded for pcs::Message {
+    ghost code = { pcs_code };
+
+    fn code(self) -> u64 {
+        pack(
+            self.length,
+            self.kind,
+            self.crc,
+            [
+                self.receiver,
+                self.sender,
+                self.number,
+                self.sender_port,
+                self.receiver_port,
+            ],
+        )
+    }
+}
+
+impl Coded for mdu::Message {
+    ghost code = { mdu_code };
+
+    fn code(self) -> u64 {
+        pack(self.length, 0, false, [self.address, 0, 0, 0, 0])
+    }
+}
+
+// Length 0 is an error message.
+impl Coded for dle::Message {
+    ghost code = { dle_code };
+
+    fn code(self) -> u64 {
+        if self.length == 0 {
+            pack(0, 1, false, [self.sequence, self.node, self.error, 0, 0])
+        } else {
+            let size = usize::from(self.length);
+            pack(size, 0, false, [self.sequence, self.node, 0, 0, 0])
+        }
+    }
+}
+
+impl Coded for expansion::Message {
+    ghost code = { expansion_code };
+
+    fn code(self) -> u64 {
+        pack(
+            self.length,
+            0,
+            false,
+            [self.id, self.kind, self.repeat, self.address, 0],
+        )
+    }
+}
+
+impl Coded for Order {
+    ghost code = { order_code };
+
+    fn code(self) -> u64 {
+        let low = 256 * u64::from(self.receiver) + 65536 * u64::from(self.sender);
+        low + 16777216 * u64::from(self.number) + 4294967296 * u64::from(self.value)
+    }
+}
+
+// A read's answer as one number: a message by its code, or the refusal's number.
+fn encode<M: Coded>(read: Result<M, Refusal>) -> u64
+    ensures { result ≡ encode M.code (outcome_of read) }
+{
+    match read {
+        Ok(message) => message.code(),
+        Err(refusal) => u64::from(u8::from(refusal)),
+    }
+}
+
+// Reads one whole frame of a link.
+fn read_frame<L: Link>(frame: &[u8], store: &mut [u8]) -> u64
+where
+    L::Message: Coded,
+    ensures { (result, store.new) ≡ coded L.Message.code (L.reads frame.now store.old) }
+{
+    encode(L::read(frame, store))
 }
 
 // A writer's answer as one number: the length, or minus the refusal's number.
@@ -45,8 +133,8 @@ fn int32_of(answer: Answer) -> i32
     ensures { result ≡ int32_of (outcome_of answer) }
 {
     match answer {
-        Answer::Done(n) => n as i32,
-        Answer::Refused(fault) => -(fault as i32),
+        Ok(n) => n as i32,
+        Err(refusal) => -(u8::from(refusal) as i32),
     }
 }
 
@@ -68,7 +156,7 @@ pub fn linebox_pcs_write(
         out.old }
 {
     if crc > 1 {
-        return int32_of(Answer::Refused(refusal::UNSENDABLE));
+        return int32_of(Err(Refusal::Unsendable));
     }
     int32_of(pcs::write(
         receiver,
@@ -99,7 +187,7 @@ pub fn linebox_dle_write(sequence: u8, node: u8, data: &[u8], out: &mut [u8]) ->
 
 // Writes a DLE error message.
 pub fn linebox_dle_write_error(sequence: u8, node: u8, error: u8, out: &mut [u8]) -> i32
-    ensures { (result, out.new) ≡ writes_to Dle.link (errorMessage sequence node error) out.old }
+    ensures { (result, out.new) ≡ writes_to Dle.link (error_message sequence node error) out.old }
 {
     int32_of(dle::write_error(sequence, node, error, out))
 }
@@ -119,128 +207,32 @@ pub fn linebox_expansion_write(
     int32_of(expansion::write(id, kind, repeat, address, data, out))
 }
 
-// What a PCS frame is read as, as one number.
-fn encode_pcs(whole: Whole) -> u64
-    ensures { result ≡ encode pcs_code (Pcs.whole_of whole) }
-{
-    match whole {
-        Whole::Refused(fault) => fault as u64,
-        Whole::Accepted(m) => pack(
-            m.length,
-            m.kind,
-            m.crc,
-            m.receiver,
-            m.sender,
-            m.number,
-            m.sender_port,
-            m.receiver_port,
-        ),
-    }
-}
-
-// What an MDU event tells, as one number; `exact` tells whether its frame is the whole run.
-fn encode_mdu(event: mdu::Event, exact: bool) -> u64
-    ensures { result ≡ encode mdu_code (settle exact (Mdu.told_of event)) }
-{
-    match event {
-        mdu::Event::Nothing => refusal::TOO_SHORT as u64,
-        mdu::Event::Refused(fault) => fault as u64,
-        mdu::Event::Accepted(m) => {
-            if exact {
-                pack(m.length, 0, false, m.address, 0, 0, 0, 0)
-            } else {
-                refusal::TOO_SHORT as u64
-            }
-        }
-    }
-}
-
-// A DLE message as one number: length 0 is an error message.
-fn dle_code(m: dle::Message) -> u64
-    ensures { result ≡ dle_code m }
-{
-    if m.length == 0 {
-        pack(0, 1, false, m.sequence, m.node, m.error, 0, 0)
-    } else {
-        pack(m.length as usize, 0, false, m.sequence, m.node, 0, 0, 0)
-    }
-}
-
-// What a DLE event tells, as one number.
-fn encode_dle(event: dle::Event, exact: bool) -> u64
-    ensures { result ≡ encode dle_code (settle exact (Dle.told_of event)) }
-{
-    match event {
-        dle::Event::Nothing => refusal::TOO_SHORT as u64,
-        dle::Event::Refused(fault) => fault as u64,
-        dle::Event::Accepted(m) => {
-            if exact {
-                dle_code(m)
-            } else {
-                refusal::TOO_SHORT as u64
-            }
-        }
-    }
-}
-
-// What an expansion event tells, as one number.
-fn encode_expansion(event: expansion::Event, exact: bool) -> u64
-    ensures { result ≡ encode expansion_code (settle exact (Expansion.told_of event)) }
-{
-    match event {
-        expansion::Event::Nothing => refusal::TOO_SHORT as u64,
-        expansion::Event::Refused(fault) => fault as u64,
-        expansion::Event::Accepted(m) => {
-            if exact {
-                pack(m.length, 0, false, m.id, m.kind, m.repeat, m.address, 0)
-            } else {
-                refusal::TOO_SHORT as u64
-            }
-        }
-    }
-}
-
-// Reads one whole PCS frame.
+// Reads one whole PCS frame. A function for each link, here and of the writers: C links no generic one.
 pub fn linebox_pcs_read(frame: &[u8], store: &mut [u8]) -> u64
     ensures { (result, store.new) ≡ reads Pcs.link pcs_code frame.now store.old }
 {
-    encode_pcs(pcs::read(frame, store))
+    read_frame::<pcs::Pcs>(frame, store)
 }
 
 // Reads one whole MDU frame.
 pub fn linebox_mdu_read(frame: &[u8], store: &mut [u8]) -> u64
     ensures { (result, store.new) ≡ reads Mdu.link mdu_code frame.now store.old }
 {
-    let got = mdu::receive(mdu::fresh(), store, frame);
-    let event = got.event;
-    encode_mdu(
-        event,
-        framing::is_exact(frame.len(), got.used, got.state.base.noise),
-    )
+    read_frame::<mdu::Mdu>(frame, store)
 }
 
 // Reads one whole DLE frame.
 pub fn linebox_dle_read(frame: &[u8], store: &mut [u8]) -> u64
     ensures { (result, store.new) ≡ reads Dle.link dle_code frame.now store.old }
 {
-    let got = dle::receive(framing::fresh(), store, frame);
-    let event = got.event;
-    encode_dle(
-        event,
-        framing::is_exact(frame.len(), got.used, got.state.noise),
-    )
+    read_frame::<dle::Dle>(frame, store)
 }
 
 // Reads one whole expansion frame.
 pub fn linebox_expansion_read(frame: &[u8], store: &mut [u8]) -> u64
     ensures { (result, store.new) ≡ reads Expansion.link expansion_code frame.now store.old }
 {
-    let got = expansion::receive(framing::fresh(), store, frame);
-    let event = got.event;
-    encode_expansion(
-        event,
-        framing::is_exact(frame.len(), got.used, got.state.noise),
-    )
+    read_frame::<expansion::Expansion>(frame, store)
 }
 
 // Carries the 16-bit check value on over a block.
@@ -264,29 +256,11 @@ pub fn linebox_display_write(
     int32_of(display::write(value, receiver, sender, number, out))
 }
 
-// An order as one number.
-fn order_code(order: Order) -> u64
-    ensures { result ≡ order_code order }
-{
-    let low = 256 * (order.receiver as u64) + 65536 * (order.sender as u64);
-    low + 16777216 * (order.number as u64) + 4294967296 * (order.value as u64)
-}
-
-// What a run is read as, as one number.
-fn encode_order(reading: Reading) -> u64
-    ensures { result ≡ encode order_code (reading_of reading) }
-{
-    match reading {
-        Reading::Refused(fault) => fault as u64,
-        Reading::Accepted(order) => order_code(order),
-    }
-}
-
 // Reads one whole frame of the display's profile.
 pub fn linebox_display_read(frame: &[u8], store: &mut [u8]) -> u64
     ensures { (result, store.new) ≡ order_read frame.now store.old }
 {
-    encode_order(display::read(frame, store))
+    encode(display::read(frame, store))
 }
 
 // The places that show a value, as one number.

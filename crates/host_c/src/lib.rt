@@ -7,7 +7,7 @@ ghost use Rattle.pcs.specs.Contract as Pcs;
 ghost use Rattle.pcs.specs.Frame as PcsFrame;
 ghost use Rattle.mdu.specs.Contract as Mdu;
 ghost use Rattle.dle.specs.Contract as Dle;
-ghost use Rattle.dle.specs.Frame.{content, error as errorMessage};
+ghost use Rattle.dle.specs.Frame.{content, error as error_message};
 ghost use Rattle.expansion.specs.Contract as Expansion;
 ghost use Rattle.expansion.specs.Frame as ExpansionFrame;
 ghost use Rattle.host.specs.Read.{reads, pcs_code, mdu_code, dle_code, expansion_code};
@@ -64,7 +64,7 @@ pub extern "C" fn linebox_dle_write(sequence: u8, node: u8, data: &[u8], out: &m
 // Writes a DLE error message.
 #[unsafe(no_mangle)]
 pub extern "C" fn linebox_dle_write_error(sequence: u8, node: u8, error: u8, out: &mut [u8]) -> i32
-    ensures { (result, out.new) ≡ writes_to Dle.link (errorMessage sequence node error) out.old }
+    ensures { (result, out.new) ≡ writes_to Dle.link (error_message sequence node error) out.old }
 {
     host::linebox_dle_write_error(sequence, node, error, out)
 }
@@ -85,7 +85,7 @@ pub extern "C" fn linebox_expansion_write(
     host::linebox_expansion_write(id, kind, repeat, address, data, out)
 }
 
-// Reads one whole PCS frame.
+// Reads one whole PCS frame. A function for each link: C links no generic one.
 #[unsafe(no_mangle)]
 pub extern "C" fn linebox_pcs_read(frame: &[u8], store: &mut [u8]) -> u64
     ensures { (result, store.new) ≡ reads Pcs.link pcs_code frame.now store.old }

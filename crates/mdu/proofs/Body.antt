@@ -1,22 +1,25 @@
 -- Bytes of a piece that are passed at once: noise, and the bytes of a body, all but the last of the frame.
-use Rattle.std.proofs.Common.{◌≡◌, ℕ, ◌+◌, ◌-◌, ◌%◌, ◌^◌, ◌<◌, ◌≤◌, true, false, cond, eqb, List, [], ◌∷◌, ◌++◌, length, take, drop, set, sym, ap, ◌∙◌, subst, arith, le-ltb, eq-eqb, ne_eqb}
+use Rattle.std.proofs.Common.{◌≡◌, ℕ, ◌+◌, ◌-◌, ◌%◌, ◌^◌, ◌<◌, ◌≤◌, Bool, true, false, cond, eqb, List, [], ◌∷◌, ◌++◌, length, take, drop, set, sym, refl, ap, ◌∙◌, subst, arith, le-ltb, eq-eqb, ne_eqb}
 use mathlib.Core.Option.{Option, none}
 use lib.Seq.{sets}
 use Rattle.runs.specs.Runs.{over, between, before}
+use Rattle.runs.proofs.Cases.{by_eqb}
 use Rattle.runs.proofs.Before.{between-not}
+use Rattle.runs.proofs.Bytes.{part_rest}
 use Rattle.runs.proofs.Run.{more_count, more-over}
 use Rattle.framing.specs.Segment.{Segment, event_of}
-use Rattle.framing.specs.State.{after_noise}
+use Rattle.framing.specs.State.{after_noise, hunted_from}
 use Rattle.framing.specs.Link.{step_on}
 use Rattle.framing.specs.Passing.{Leads}
 use Rattle.framing.proofs.Passing.{Gathers}
 use Rattle.framing.specs.declared.State as Base
+use Rattle.framing.specs.declared.Reached.{Reached}
 use Rattle.framing.proofs.States.{noise_mode, noise_next}
-use Rattle.framing.proofs.Passing.{leads_none, leads_before, gathers_run, gathers_leads}
+use Rattle.framing.proofs.Passing.{leads_before, gathers_run, gathers_leads}
 use Rattle.mdu.specs.Frame.{Message}
 use Rattle.mdu.specs.Rules.{Phase, in_body, size, on_byte}
 use Rattle.mdu.specs.Contract.{known_state, state_after, link}
-use Rattle.mdu.specs.Steps.{ToCome, Passes}
+use Rattle.mdu.specs.Steps.{ToCome, AtLast, Passes}
 use Rattle.mdu.specs.declared.State.{State}
 use Rattle.mdu.proofs.Known.{body_state, body-known, known_open}
 use Rattle.mdu.proofs.Store.{body_goes_on}
@@ -31,28 +34,49 @@ noise_step : (s : State) (store : List ℕ) (b : ℕ) → s.base.mode ≡ 0 → 
 noise_step s store b e h = rw (eq-eqb s.base.mode 0 e, ne_eqb b 0xE3 (λ i. between-not 0xE3 0xE3 b h (omega arith) (omega arith)))
 
 leads_hunting : (piece : List ℕ) (s : State) (store : List ℕ) (i n : ℕ) → s.base.mode ≡ 0 → i ≤ length piece
-    → n ≡ before 0xE3 0xE3 (take (length piece - i) (drop i piece)) → Leads link piece (s, store) i (hunted s n, store) (i + n)
+    → n ≡ before 0xE3 0xE3 (take (length piece - i) (drop i piece)) → Leads (step_on link) piece (s, store) i (hunted s n, store) (i + n)
 leads_hunting piece s store i n e h l =
     leads_before link piece 0xE3 0xE3 (hunted s) store i n h (omega arith)
     (λ k b q.
     let cleared : 0 ≡ cond (eqb (k + 1) 0) s.length 0 = rw (ne_eqb (k + 1) 0 (omega arith)) in
     noise_step (hunted s k) store b (noise_mode s.base k e) q ∙ (λ j. ((record { base = noise_next s.base k e j; length = cleared j }, store), none)))
 
-module _ (piece : List ℕ) (s : State) (i : ℕ) (known : known_state s ≡ true) (e : s.base.mode ≡ 0) (h : i ≤ length piece) where
-  pub passes_none : (store : List ℕ) → Passes piece (s, store) i (record { state = s; next = i }) store
-  passes_none store =
-      record { leads = leads_none link piece (s, store) i h; known = known; at_last = λ _ low. absurd (known_open s known (omega (arith, low)) e) }
+module _ (s : State) (known : known_state s ≡ true) (e : s.base.mode ≡ 0) where
+  known_hunted : (n : ℕ) → known_state (hunted s n) ≡ true
+  known_hunted n = go (eqb n 0)
+    where
+      after : Base.State
+      after = record { mode = 0; count = 0; «open» = 0; noise = (s.base.noise + n) % 2 ^ 32 }
 
-  pub passes_noise : (n : ℕ) (base : Base.State) → n ≡ before 0xE3 0xE3 (take (length piece - i) (drop i piece)) → (n ≡ 0 → ⊥)
-      → base ≡ after_noise s.base n → (store : List ℕ) → Passes piece (s, store) i (record { state = record { base = base; length = 0 }; next = i + n }) store
-  passes_noise n base l some is store =
-      let cleared : 0 ≡ cond (eqb n 0) s.length 0 = rw (ne_eqb n 0 some) in
-      let whole : record { base = base; length = 0 } ≡ hunted s n = λ j. record { base = is j; length = cleared j } in
+      go : (t : Bool) → known_state (record { base = cond t s.base after; length = cond t s.length 0 }) ≡ true
+      go true = known
+      go false = refl
+
+  -- the noise of a piece from place i on, as the shared state passes it
+  pub passes_noise : (piece : List ℕ) (i : ℕ) → i ≤ length piece → (b : Reached Base.State) → b ≡ hunted_from s.base piece i 0xE3
+      → (l : ℕ) → l ≡ cond (eqb b.next i) s.length 0 → (store : List ℕ)
+      → Passes piece (s, store) i (record { state = record { base = b.state; length = l }; next = b.next }) store
+  passes_noise piece i h b f l g store =
       record {
-        leads = subst (λ (x : State). Leads link piece (s, store) i (x, store) (i + n)) (sym whole) (leads_hunting piece s store i n e h l);
-        known = rw (is, ne_eqb n 0 some);
-        at_last = rw (is, ne_eqb n 0 some) (λ _ low. absurd (omega (arith, low)));
+        leads = subst (λ (x : Reached State). Leads (step_on link) piece (s, store) i (x.state, store) x.next) (sym is)
+            (leads_hunting piece s store i n e h (ap (before 0xE3 0xE3) (sym (part_rest piece i))));
+        known = ap (λ (x : Reached State). known_state x.state) is ∙ known_hunted n;
+        at_last = subst (λ (x : Reached State). x.next < length piece → AtLast x.state) (sym is)
+            (λ _ low. absurd (known_open (hunted s n) (known_hunted n) (omega (arith, low)) (noise_mode s.base n e)));
       }
+    where
+      n : ℕ
+      n = before 0xE3 0xE3 (drop i piece)
+
+      cleared : (k : ℕ) → cond (eqb (i + k) i) s.length 0 ≡ cond (eqb k 0) s.length 0
+      cleared k =
+          by_eqb (λ (x : ℕ). cond (eqb (i + k) i) s.length 0 ≡ x) k 0
+          (λ z. rw (eq-eqb (i + k) i (omega arith))) (λ o. rw (ne_eqb (i + k) i (λ z. o (omega arith))))
+
+      is : ◌≡◌ {A = Reached State} (record { state = record { base = b.state; length = l }; next = b.next }) (record { state = hunted s n; next = i + n })
+      is =
+          let k = g ∙ ap (λ (x : Reached Base.State). cond (eqb x.next i) s.length 0) f ∙ cleared n in
+          λ j. record { state = record { base = (f j).state; length = k j }; next = (f j).next }
 
 module _ (k : ℕ) where
   abbrev body : ℕ → ℕ → ℕ → State

@@ -73,9 +73,6 @@ module _ (s : State) (h : known_state s ≡ true) where
 
 -- an open frame
 module _ (s : State) (h : known_state s ≡ true) (opened : s.base.mode ≡ 0 → ⊥) where
-  pub known_mode : s.base.mode ≡ 1
-  known_mode = omega (arith, ltb-true s.base.mode 2 (shared s h).0)
-
   counted : cond (ltb s.base.count 6) (leb 1 s.base.count) (length_ok s.length && ltb s.base.count (8 + s.length)) ≡ true
   counted = rw (ne_eqb s.base.mode 0 opened) at (both s h).1
 

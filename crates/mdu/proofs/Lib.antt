@@ -1,5 +1,5 @@
--- `Passed`, `Entered`, `OnByte`, `Readback` and `Known` have the laws of the rules, `Lawful` gathers them, `Numbers`, `Places` which numbers it gives and what it leaves in the store, `Theorems` has what is claimed. `Store`,
--- `Steps`, `Body` and `Written` are for the code.
+-- `Passed`, `Entered`, `OnByte`, `Readback` and `Known` have the laws of the rules, `Lawful` gathers them, `Numbers` and `Places` say which numbers it
+-- gives and what it leaves in the store, `Theorems` has what is claimed. `Store`, `Body`, `Sum` and `Written` are for the code.
 pub mod Passed
 pub mod Entered
 pub mod OnByte
@@ -11,6 +11,6 @@ pub mod Numbers
 pub mod Places
 pub mod Theorems
 pub mod Store
-pub mod Steps
 pub mod Body
+pub mod Sum
 pub mod Written

@@ -3,15 +3,12 @@ use Rattle.std.specs.Prelude.{ℕ, ◌+◌, Bool, true, cond, ◌&&◌, List, []
 use Rattle.std.proofs.Math.Option.{Option}
 use Rattle.framing.specs.Segment.{Segment}
 use Rattle.framing.specs.State as Shared
-use Rattle.framing.specs.Link.{Link, Lent, Told, nothing, accepted, refused, data_at}
+use Rattle.framing.specs.Link.{Link, data_at}
 use Rattle.mdu.specs.Frame.{Typed, length_ok, ok, frame}
 use Rattle.mdu.specs.Frame as Frame
 use Rattle.mdu.specs.Rules.{Phase, hunting, in_header, in_body, size, gathered, held, on_byte}
 use Rattle.mdu.specs.declared.State.{State}
 use Rattle.mdu.specs.declared.Message.{Message}
-use Rattle.mdu.specs.declared.Event.{Event}
-use Rattle.mdu.specs.declared.Event.TheVariants.{Nothing, Accepted, Refused}
-use Rattle.mdu.specs.declared.Received.{Received}
 
 abbrev pub fresh_state : State
 fresh_state = record { base = Shared.fresh_state; length = 0 }
@@ -87,13 +84,3 @@ link =
       numbers_of = numbers_of;
       message_of = message_of;
     }
-
--- each case of the receiver's answer
-abbrev pub told_of : Event → Told Message
-told_of Nothing = nothing
-told_of (Accepted m) = accepted m
-told_of (Refused n) = refused n
-
--- an answer with the store after the call
-abbrev pub received_of : Received → List ℕ → Told Message × ℕ × Lent link
-received_of r store = (told_of r.event, r.used, (r.state, store))

@@ -1,22 +1,19 @@
 // What the writer and the receiver share of a header.
-ghost use Rattle.std.specs.Prelude.{◌≡◌, [], ◌∷◌};
+ghost use Rattle.std.specs.Prelude.{◌≡◌, length};
 ghost use Rattle.mdu.specs.Frame.{length_ok, header_sum};
 
 // Whether a body may be so long.
 pub(crate) fn length_ok(count: usize) -> bool
     ensures { result ≡ length_ok count }
 {
-    1 <= count && count <= 1025
+    (1..=1025).contains(&count)
 }
 
 // The header sum of the first five bytes.
-pub(crate) fn header_sum(mark: u8, version: u8, high: u8, low: u8, address: u8) -> u8
-    ensures { result ≡ header_sum (mark ∷ version ∷ high ∷ low ∷ address ∷ []) }
+#[tactic(auto, using(crate::proofs::Sum::sum_is))]
+pub(crate) fn header_sum(five: &[u8]) -> u8
+    requires { length five.now ≡ 5 }
+    ensures { result ≡ header_sum five.now }
 {
-    let sum = (mark as usize)
-        + (version as usize)
-        + (high as usize)
-        + (low as usize)
-        + (address as usize);
-    (sum % 256) as u8
+    runs::total(0, five)
 }

@@ -7,17 +7,22 @@ mod writer;
 
 ghost use Rattle.std.specs.Prelude.{◌≡◌};
 ghost use Rattle.framing.specs.Answer.{outcome_of};
+ghost use Rattle.framing.specs.Segment as Segment;
 ghost use Rattle.framing.specs.Writer.{writes};
-ghost use Rattle.framing.specs.Link.{receives};
+ghost use Rattle.framing.specs.Link.{step_on, told, receives};
+ghost use Rattle.framing.specs.Whole.{read_on};
+ghost use Rattle.framing.proofs.Called.{silent, loud, calls, wholes};
+ghost use Rattle.mdu.specs.Frame as Frame;
 ghost use Rattle.mdu.specs.Frame.{ok, frame};
-ghost use Rattle.mdu.specs.Contract.{fresh_state, data_of, link, received_of};
+ghost use Rattle.mdu.specs.Rules.{size};
+ghost use Rattle.mdu.specs.Contract.{fresh_state, known_state, data_of, link};
+ghost use Rattle.mdu.specs.Steps.{Ready, Due};
 
-use framing::Answer;
-
-// The least store of a receiver: a header of 6 bytes, a body of at most 1,025, a check value of 2.
-const SIZE: usize = 1033;
+use framing::{Answer, Link, Reached, Stepped};
+use header::length_ok;
 
 // What the receiver keeps between calls: what every link's does, and from byte six of a frame on its stated length.
+// No enum with the length in one case: a caller may hand in any numbers, and gets 12 for those that do not fit together (`known_state`).
 #[derive(Clone, Copy)]
 pub struct State {
     pub base: framing::State,
@@ -31,66 +36,106 @@ pub struct Message {
     pub length: usize,
 }
 
-// What a call tells: nothing, a message, or the number of a refusal.
-#[derive(Clone, Copy)]
-pub enum Event {
-    Nothing,
-    Accepted(Message),
-    Refused(u8),
-}
-
-// What a call answers: what it tells, how many bytes of the piece it used, and the state for the next call.
-#[derive(Clone, Copy)]
-pub struct Received {
-    pub event: Event,
-    pub used: usize,
-    pub state: State,
-}
-
-// A receiver that has read nothing.
-pub fn fresh() -> State
-    ensures { result ≡ fresh_state }
-{
-    State {
-        base: framing::fresh(),
-        length: 0,
-    }
-}
-
 // Writes the frame of a message at the start of the lent memory, and answers its length.
 pub fn write(address: u8, body: &[u8], out: &mut [u8]) -> Answer
     ensures { (outcome_of result, out.new)
         ≡ writes ok frame (record { address = address; body = body.now }) out.old }
 {
     let end = 8 + body.len();
-    let fault = framing::write_fault(writer::may_send(address, body), end <= out.len());
-    if fault == 0 {
-        writer::put_frame(address, body, out);
-        Answer::Done(end)
-    } else {
-        Answer::Refused(fault)
-    }
+    framing::check_write(writer::may_send(address, body), end <= out.len())?;
+    writer::put_frame(address, body, out);
+    Ok(end)
 }
 
-// A call of the receiver: uses the bytes of the piece until one makes an event, that one included.
-pub fn receive(state: State, store: &mut [u8], piece: &[u8]) -> Received
-    ensures { received_of result store.new ≡ receives link (state, store.old) piece.now }
-{
-    let fault = framing::call_fault(receiver::is_known(state), SIZE <= store.len());
-    if fault == 0 {
-        receiver::scan(state, store, piece)
-    } else {
-        Received {
-            event: Event::Refused(fault),
-            used: 0,
-            state: state,
+// The link: `Mdu::receive` is a call of the receiver, `Mdu::read` reads a whole frame.
+pub struct Mdu;
+
+impl Link for Mdu {
+    type Message = Message;
+
+    type State = State;
+
+    ghost SIZE = { size };
+
+    ghost known = { known_state };
+
+    ghost fresh = { fresh_state };
+
+    ghost noise = { λ s. s.base.noise };
+
+    ghost Event = { Segment.Event Frame.Message };
+
+    ghost step_on = { step_on link };
+
+    ghost told = { told link };
+
+    ghost receives = { receives link };
+
+    ghost reads = { read_on link };
+
+    ghost data_of = { data_of };
+
+    ghost Ready = { Ready };
+
+    ghost Due = { Due };
+
+    // A header of 6 bytes, a body of at most 1,025, a check value of 2.
+    const SIZE: usize = 1033;
+
+    fn fresh() -> State {
+        State {
+            base: framing::State::fresh(),
+            length: 0,
         }
     }
-}
 
-// The body of a message, as a part of the store; empty where the numbers reach beyond the store.
-pub fn data(store: &[u8], message: Message) -> &[u8]
-    ensures { result.now ≡ data_of store.now message }
-{
-    framing::data_at(store, 6, message.length)
+    fn is_known(state: State) -> bool {
+        let State { base, length } = state;
+        base.is_known(2, 1, Self::SIZE)
+            && match base.count {
+                0 => base.mode == 0,
+                1..=5 => true,
+                count => length_ok(length) && count < 8 + length,
+            }
+    }
+
+    fn noise(state: State) -> u32 {
+        state.base.noise
+    }
+
+    // Noise, the bytes of a body, or none.
+    fn advance(state: State, store: &mut [u8], piece: &[u8], from: usize) -> Reached<State> {
+        if state.base.mode == 0 {
+            receiver::pass_noise(state, piece, from)
+        } else if state.base.count < 6 {
+            Reached { state, next: from }
+        } else {
+            receiver::pass_body(state, store, piece, from)
+        }
+    }
+
+    // Of a body and its check value only the last byte.
+    fn step(state: State, store: &mut [u8], byte: u8) -> Stepped<Message, State> {
+        if state.base.mode == 0 {
+            receiver::hunt(state, store, byte)
+        } else if state.base.count < 6 {
+            receiver::header_byte(state, store, byte)
+        } else {
+            receiver::last_byte(state, store, byte)
+        }
+    }
+
+    fn data(store: &[u8], message: Message) -> &[u8] {
+        framing::data_at(store, 6, message.length)
+    }
+
+    ghost starts = { λ s store known room. (known, room) };
+
+    ghost silent = { silent link };
+
+    ghost loud = { loud link };
+
+    ghost calls = { calls link };
+
+    ghost wholes = { wholes link };
 }

@@ -1,52 +1,35 @@
-// Which messages may be sent, and the parts of a frame, stored one after the other.
+// Which messages may be sent, and their frames.
 ghost use Rattle.std.specs.Prelude.{◌≡◌, ◌+◌, ◌≤◌, length};
 ghost use Rattle.std.proofs.lemmas.List.Edits.{sets};
-ghost use Rattle.mdu.specs.Frame.{ok, header, trailer, frame};
+ghost use Rattle.mdu.specs.Frame.{ok, header, frame};
 
-use super::header;
+use super::header::{header_sum, length_ok};
 
 // Whether a message may be sent.
 pub(crate) fn may_send(address: u8, body: &[u8]) -> bool
     ensures { result ≡ ok (record { address = address; body = body.now }) }
 {
-    1 <= address && header::length_ok(body.len())
+    1 <= address && length_ok(body.len())
 }
 
-// Stores a header at the start.
-fn put_header(out: &mut [u8], stated: u16, address: u8)
-    requires { 6 ≤ length out.old }
-    ensures { out.new ≡ sets out.old 0 (header stated address) }
+// The header of a body of so many bytes.
+fn header(stated: u16, address: u8) -> [u8; 6]
+    ensures { result ≡ header stated address }
 {
-    let high = (stated / 256) as u8;
-    let low = (stated % 256) as u8;
-    let sum = header::header_sum(0xE3, 0x01, high, low, address);
-    out[0] = 0xE3;
-    out[1] = 0x01;
-    out[2] = high;
-    out[3] = low;
-    out[4] = address;
-    out[5] = sum;
+    let [high, low] = stated.to_be_bytes();
+    let mut header = [0xE3, 0x01, high, low, address, 0];
+    header[5] = header_sum(&header[..5]);
+    header
 }
 
-// Stores the bytes from a place on.
+// Stores the bytes from a place on. By hand, since `copy_from_slice` calls memmove, and the C library wants no symbol from outside (README).
 pub(crate) fn put_bytes(out: &mut [u8], at: usize, bytes: &[u8])
     requires { at + length bytes.now ≤ length out.old }
     ensures { out.new ≡ sets out.old at bytes.now }
 {
-    let mut i = 0;
-    while i < bytes.len() {
+    for i in 0..bytes.len() {
         out[at + i] = bytes[i];
-        i += 1;
     }
-}
-
-// Stores a check value from a place on, high byte first.
-fn put_check(out: &mut [u8], at: usize, check: u16)
-    requires { at + 2 ≤ length out.old }
-    ensures { out.new ≡ sets out.old at (trailer check) }
-{
-    out[at] = (check / 256) as u8;
-    out[at + 1] = (check % 256) as u8;
 }
 
 // Stores a frame at the start.
@@ -54,9 +37,9 @@ pub(crate) fn put_frame(address: u8, body: &[u8], out: &mut [u8])
     requires { (length body.now ≤ 1025) × (8 + length body.now ≤ length out.old) }
     ensures { out.new ≡ sets out.old 0 (frame (record { address = address; body = body.now })) }
 {
-    let n = body.len();
+    let end = 6 + body.len();
     let check = checksum::crc16(0, body);
-    put_header(out, n as u16, address);
+    out[..6].copy_from_slice(&header(body.len() as u16, address));
     put_bytes(out, 6, body);
-    put_check(out, 6 + n, check);
+    out[end..end + 2].copy_from_slice(&check.to_be_bytes());
 }

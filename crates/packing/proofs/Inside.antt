@@ -1,31 +1,14 @@
 -- A part of a list, as far as it lies in the list: a place or a count past the end is as good as the end.
-use Rattle.std.proofs.Common.{◌≡◌, ℕ, ◌-◌, min, List, length, take, drop, sym, ap, ◌∙◌, arith, length-drop, drop_of_length-le, take_all}
-use native.Mathlib.Decide.{dec_le}
+use Rattle.std.proofs.Common.{◌≡◌, ℕ, ◌-◌, min, List, length, take, drop, ap, ◌∙◌, arith, length-drop}
+use Rattle.std.proofs.lemmas.List.{take_min, drop_min}
 
 -- count bytes from a place on
 abbrev pub part : List ℕ → ℕ → ℕ → List ℕ
 part d from count = take count (drop from d)
 
-module _ {A : Type 0} where
-  take_min : (l : List A) (n m : ℕ) → m ≡ min n (length l) → take m l ≡ take n l
-  take_min l n m e =
-      elim (dec_le n (length l)) [
-        | yes h ↦
-            let same : m ≡ n = omega arith in
-            rw same
-        | no h ↦ take_all m l (omega arith) ∙ sym (take_all n l (omega arith))
-      ]
-
-  drop_min : (l : List A) (n m : ℕ) → m ≡ min n (length l) → drop m l ≡ drop n l
-  drop_min l n m e =
-      elim (dec_le n (length l)) [
-        | yes h ↦
-            let same : m ≡ n = omega arith in
-            rw same
-        | no h ↦ drop_of_length-le l {i = m} (omega arith) ∙ sym (drop_of_length-le l {i = n} (omega arith))
-      ]
-
-  pub inside : (l : List A) (from count start size : ℕ) → start ≡ min from (length l) → size ≡ min count (length l - start)
-      → take size (drop start l) ≡ take count (drop from l)
-  inside l from count start size a b =
-      ap (take size) (drop_min l from start a) ∙ take_min (drop from l) count size (rw length-drop (omega arith))
+pub inside : (l : List ℕ) (from count start size : ℕ) → start ≡ min from (length l) → size ≡ min count (length l - start)
+    → take size (drop start l) ≡ part l from count
+inside l from count start size a b =
+    let at : drop start l ≡ drop from l = ap (λ (n : ℕ). drop n l) a ∙ drop_min from l in
+    let n : size ≡ min count (length (drop from l)) = rw length-drop (omega arith) in
+    ap (take size) at ∙ ap (λ (m : ℕ). take m (drop from l)) n ∙ take_min count (drop from l)

@@ -5,36 +5,45 @@ use mathlib.Core.List.{List, []}
 use mathlib.Core.Option.{Option, none, some}
 use native.Mathlib.Omega.{arith}
 use lib.ListN.{length, take, drop}
-use lib.Seq.{length-take-le, get_or-take}
-use borrow.Author.Tests.{eq-eqb, ne_eqb}
+use lib.Seq.{length-take-le}
+use borrow.Author.Tests.{eq-eqb}
 use Rattle.runs.specs.Runs.{over}
 use Rattle.runs.proofs.Run.{sets_over}
-use Rattle.framing.specs.Answer.{Outcome}
-use Rattle.framing.specs.Segment.{Segment, refused_frame, event_of}
-use Rattle.framing.specs.Link.{told}
+use Rattle.std.specs.Prelude.{Result, Ok, Err, MatchResult, IsOkAnd}
+use Rattle.std.specs.Prelude as Code
+use Rattle.framing.specs.Answer.{Outcome, done, refused, outcome_of}
+use Rattle.framing.specs.Call.{told_of}
+use Rattle.framing.specs.declared.refusal.Refusal.{Refusal}
+use Rattle.pcs.specs.Steps.{heard}
+use Rattle.framing.specs.Segment.{Segment, event_of}
+use Rattle.framing.specs.Link.{Told, accepted, told}
+use Rattle.framing.specs.Link as Link
 use Rattle.packing.specs.Unpacked.{unpacked}
 use Rattle.packing.specs.Contract.{unpacked_in}
 use Rattle.packing.proofs.Laws.{length-unpacked}
 use Rattle.packing.proofs.Contract.{unpacked_done, unpacked_refused}
 use Rattle.pcs.specs.Frame as Frame
 use Rattle.pcs.specs.Rules.{hunting, stated, packed_part, fault_of, message_with, unpack, judge}
-use Rattle.pcs.specs.Contract.{front_of, link}
-use Rattle.pcs.specs.Steps.{told_with}
-use Rattle.pcs.proofs.Passed.{passed, nine, packed-length}
+use Rattle.pcs.specs.Contract.{numbers_with, front_of, link}
+use Rattle.pcs.specs.declared.Message.{Message}
+use Rattle.pcs.proofs.Passed.{passed, packed-length}
 use Rattle.pcs.proofs.Store.{packed-at}
 
-module _ (g wire : List ℕ) where
-  pub judge_fault : (fault_of g ≡ 0 → ⊥) → judge g wire ≡ refused_frame (fault_of g) wire
-  judge_fault h = rw (ne_eqb (fault_of g) 0 h)
+-- what is told of a message once its data are unpacked, or badly packed
+abbrev pub told_with : Frame.Message → Outcome ℕ → Told Message
+told_with m (done n) = accepted (numbers_with m n)
+told_with m (refused n) = Link.refused n
 
+-- a message or a refusal is told as what it is
+pub told_heard : (r : Result Message Refusal) (t : Result (Code.Option Message) Refusal)
+    → MatchResult r (λ m. IsOkAnd t (λ o. o ≡ Code.Some m)) (λ f. t ≡ Err f) → told_of t ≡ heard (outcome_of r)
+told_heard (Ok m) (Ok o) h = ap (λ x. told_of (Ok x)) h
+told_heard (Ok m) (Err f) h = absurd h
+told_heard (Err f) t h = ap told_of h
+
+module _ (g wire : List ℕ) where
   judge_unpacks : fault_of g ≡ 0 → judge g wire ≡ unpack g wire (unpacked (packed_part g))
   judge_unpacks h = rw (eq-eqb (fault_of g) 0 h)
-
--- the stated length stands in the store as it was gathered
-pub stated-at : (store : List ℕ) (count : ℕ) → count ≤ length store → fault_of (take count store) ≡ 0 → stated (take count store) ≡ stated store
-stated-at store count room fine =
-    let long : 9 ≤ count = omega (arith, nine (take count store) (passed (take count store) fine), length-take-le count store room) in
-    rw (get_or-take count store 4 0 (omega arith), get_or-take count store 5 0 (omega arith))
 
 -- unpacking in place, by what is told and what the store then holds
 module _ (store : List ℕ) (count n : ℕ) (room : count ≤ length store) (fine : fault_of (take count store) ≡ 0) (present : n ≡ stated (take count store))

@@ -1,18 +1,24 @@
 -- What the tests at the end of a frame say together.
 use Prim.Native.Nat.{ℕ, ◌+◌, ◌-◌, ◌≤◌, ◌<◌}
 use mathlib.Core.Path.{◌≡◌, refl, ap, sym, ◌∙◌}
-use mathlib.Core.Bool.{Bool, true, false, ◌&&◌, not}
+use mathlib.Core.Bool.{Bool, true, false, cond, ◌&&◌, not}
 use mathlib.Core.List.{List, [], ◌∷◌}
 use native.Mathlib.Omega.{arith}
 use lib.Dec.{eqb, ltb}
-use lib.ListN.{length, take, drop, length-drop, length-take}
+use lib.ListN.{length, get_or, take, drop, length-drop, length-take}
 use borrow.Author.Tests.{ltb-false, lt-ltb, le-ltb, eqb-true, eq-eqb, not-false}
 use Rattle.framing.specs.Tests.{first_of}
 use Rattle.framing.proofs.Tests.{none_fires}
 use Rattle.pcs.specs.Frame.{trailer, trailing}
 use Rattle.pcs.specs.Rules.{size, plain_size, stated, has_crc, body_part, trailer_part, packed_part, too_short, too_long, same, trailer_right, fields_ok, length_right, tests, fault_of}
 use Rattle.pcs.specs.Steps.{trailer_fault}
-use Rattle.pcs.proofs.Trailer.{same_refl, same_true, trailing_range}
+use Rattle.std.specs.Prelude.{nat_eq}
+use Rattle.std.specs.List.{ends_with}
+use mathlib.Core.Logic.{◌⊎◌, inl, inr}
+use Rattle.checksum.specs.Sum.{sum_of}
+use Rattle.checksum.specs.Crc.{crc16_of}
+use Rattle.pcs.specs.Frame.{crc_bytes}
+use Rattle.pcs.proofs.Trailer.{same_refl, same_true, trailing_range, sum_wrong, sum_right, crc_said}
 
 -- of three tests with others behind them: the number of the first three where one of them fires, else that of the others
 first_three : (a b c : Bool) (more : List (Bool × ℕ))
@@ -96,18 +102,38 @@ module _ (g : List ℕ) where
       (first_three (too_short g) (too_long g) (not (trailer_right g)) (later (length (packed_part g)))).0 (λ z. n (w ∙ z)) ∙ sym w
 
   -- .. and else the tests behind them, with a trailer of t
-  pub faults : (crc : Bool) (s t : ℕ) → crc ≡ has_crc g → s ≡ trailer_fault crc g → s ≡ 0 → t ≡ trailing crc → fault_of g ≡ first_of (later (length g - t - 8))
+  pub faults : (crc : Bool) (t : ℕ) → crc ≡ has_crc g → 0 ≡ trailer_fault crc g → t ≡ trailing crc → fault_of g ≡ first_of (later (length g - t - 8))
   unfolding fault_of
-  faults crc s t k e z n =
-      let w : s ≡ trailer_fault (has_crc g) g = e ∙ ap (λ (c : Bool). trailer_fault c g) k in
+  faults crc t k e n =
+      let w : 0 ≡ trailer_fault (has_crc g) g = e ∙ ap (λ (c : Bool). trailer_fault c g) k in
       let there : length (packed_part g) ≡ length g - t - 8 = packed-length ∙ ap (λ (x : ℕ). length g - x - 8) (ap trailing (sym k) ∙ sym n) in
-      (first_three (too_short g) (too_long g) (not (trailer_right g)) (later (length (packed_part g)))).1 (sym w ∙ z) ∙ (λ i. first_of (later (there i)))
+      (first_three (too_short g) (too_long g) (not (trailer_right g)) (later (length (packed_part g)))).1 (sym w) ∙ (λ i. first_of (later (there i)))
 
-  -- where none of the first three fires, a header and a trailer fit
-  pub fits : (crc : Bool) (s : ℕ) → s ≡ trailer_fault crc g → s ≡ 0 → 8 + trailing crc ≤ length g
-  fits crc s e z =
-      let end : ℕ = length g - trailing crc in
-      let tests : List (Bool × ℕ) =
-      (ltb (length g) (8 + trailing crc), 6) ∷ (not crc && ltb plain_size (length g), 5) ∷ (not (same (drop end g) (trailer crc (take end g))), 8) ∷ [] in
-      let silent = none_fires tests refl (sym e ∙ z) in
-      ltb-false (length g) (8 + trailing crc) silent.0
+-- the first tests by what the code has in hand: n bytes of a trailer t behind a body b
+module _ (g : List ℕ) (crc : Bool) (n : ℕ) (b t : List ℕ) (k : n ≡ trailing crc) (enough : 8 + n ≤ length g)
+    (few : ((crc ≡ false) × (length g ≤ plain_size)) ⊎ (crc ≡ true)) (front : b ≡ take (length g - n) g) (back : t ≡ drop (length g - n) g) where
+  tested : (r : Bool) → same t (trailer crc b) ≡ r → ◌≡◌ {A = ℕ} (cond r 0 8) (trailer_fault crc g)
+  tested r e =
+      let right : same (drop (length g - trailing crc) g) (trailer crc (take (length g - trailing crc) g)) ≡ r =
+      (λ i. same (drop (length g - sym k i) g) (trailer crc (take (length g - sym k i) g))) ∙ (λ i. same (sym back i) (trailer crc (sym front i))) ∙ e in
+      sym (rw (le-ltb (length g) (8 + trailing crc) (omega arith), within few, right) (last r))
+    where
+      within : ((crc ≡ false) × (length g ≤ plain_size)) ⊎ (crc ≡ true) → not crc && ltb plain_size (length g) ≡ false
+      within (inl (f, l)) = rw (f, le-ltb plain_size (length g) l)
+      within (inr h) = rw h
+
+      last : (r : Bool) → ◌≡◌ {A = ℕ} (cond (not r) 8 0) (cond r 0 8)
+      last true = refl
+      last false = refl
+
+  counted : length t ≡ trailing crc
+  counted = ap length back ∙ simp length-drop (omega arith)
+
+  pub wrong_sum : (get_or t 0 0 ≡ sum_of b → ⊥) → 8 ≡ trailer_fault crc g
+  wrong_sum h = tested false (sum_wrong t b crc h)
+
+  pub by_crc : (r : Bool) → crc ≡ true → get_or t 0 0 ≡ sum_of b → r ≡ ends_with nat_eq t (crc_bytes (crc16_of b)) → ◌≡◌ {A = ℕ} (cond r 0 8) (trailer_fault crc g)
+  by_crc r h e s = tested r (ap (λ (c : Bool). same t (trailer c b)) h ∙ crc_said t b r (counted ∙ ap trailing h) e s)
+
+  pub plain_right : crc ≡ false → get_or t 0 0 ≡ sum_of b → 0 ≡ trailer_fault crc g
+  plain_right h e = tested true (ap (λ (c : Bool). same t (trailer c b)) h ∙ sum_right t b (counted ∙ ap trailing h) e)

@@ -32,7 +32,7 @@ noise_step : (store : List ℕ) (s : State) (b : ℕ) → s.mode ≡ 0 → betwe
 noise_step store s b e h = rw (eq-eqb s.mode 0 e, ne_eqb b 253 (λ i. between-not 253 253 b h (omega arith) (omega arith)))
 
 pub leads_hunting : (piece : List ℕ) (s : State) (store : List ℕ) (i n : ℕ) → s.mode ≡ 0 → i ≤ length piece → n ≡ before 253 253 (take (length piece - i) (drop i piece))
-    → Leads link piece (s, store) i (after_noise s n, store) (i + n)
+    → Leads (step_on link) piece (s, store) i (after_noise s n, store) (i + n)
 leads_hunting piece s store i n e h l =
     leads_before link piece 253 253 (after_noise s) store i n h (omega arith)
     (λ k b q. noise_step store (after_noise s k) b (noise_mode s k e) q ∙ ap (λ (x : State). ((x, store), none)) (noise_next s k e))

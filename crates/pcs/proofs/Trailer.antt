@@ -1,14 +1,16 @@
 -- Body and trailer of gathered bytes: the info and the length say how they part.
-use Prim.Native.Nat.{ℕ, ◌+◌, ◌-◌, ◌%◌, ◌≤◌, ◌<◌}
+use Prim.Native.Nat.{ℕ, ◌+◌, ◌-◌, ◌%◌, ◌≤◌}
 use mathlib.Core.Path.{◌≡◌, refl, ap, ap₂, sym, ◌∙◌}
-use mathlib.Core.Bool.{Bool, true, false, cond, ◌&&◌, ◌||◌, false≢true, and-true}
+use Rattle.std.specs.Prelude.{nat_eq}
+use Rattle.std.specs.List.{ends_with}
+use Rattle.std.specs.Cmp.Lexicographic.{same_text, other_text}
+use mathlib.Core.Bool.{Bool, true, false, ◌&&◌, ◌||◌, false≢true}
 use mathlib.Core.List.{List, [], ◌∷◌, ◌++◌}
 use native.Mathlib.Omega.{arith}
 use lib.Dec.{eqb, leb}
-use native.Mathlib.Numerals.{add-one}
-use lib.ListN.{length, take, drop, get_or, length-append, take-append-drop, drop_of_length-le}
+use lib.ListN.{length, drop, get_or, length-append, take-append-drop, drop_of_length-le}
 use lib.Seq.{take_at, drop_at, drop-cons}
-use borrow.Author.Tests.{eqb-true, eq-eqb, ne_eqb, leb-true, le-leb, lt-leb}
+use borrow.Author.Tests.{eqb-true, eq-eqb, leb-true, le-leb, lt-leb}
 use Rattle.runs.proofs.Cases.{and_both}
 use Rattle.checksum.specs.Sum.{sum_of}
 use Rattle.checksum.specs.Crc.{crc16_of}
@@ -29,48 +31,33 @@ same_true (x ∷ xs) (y ∷ ys) h =
     let a = and_both (eqb x y) (same xs ys) h in
     ap₂ ◌∷◌ (eqb-true x y a.0) (same_true xs ys a.1)
 
--- byte by byte, from a place on
-pub same_step : (g : List ℕ) (at y : ℕ) (ys : List ℕ) → at < length g → same (drop at g) (y ∷ ys) ≡ (eqb (get_or g at 0) y && same (drop (at + 1) g) ys)
-unfolding same
-same_step g at y ys h = rw (drop-cons g at 0 h, add-one)
+same_false : (xs ys : List ℕ) → (xs ≡ ys → ⊥) → same xs ys ≡ false
+same_false xs ys n = go (same xs ys) refl
+  where
+    go : (r : Bool) → same xs ys ≡ r → same xs ys ≡ false
+    go true e = absurd (n (same_true xs ys e))
+    go false e = e
 
-pub same_end : (g : List ℕ) (at : ℕ) → length g ≤ at → same (drop at g) [] ≡ true
-unfolding same
-same_end g at h = rw (drop_of_length-le g {i = at} h)
+-- what is compared of the bytes t behind a body b says whether they are its trailer: the first of them, and with a CRC the last three
+module _ (t b : List ℕ) where
+  pub sum_wrong : (crc : Bool) → (get_or t 0 0 ≡ sum_of b → ⊥) → same t (trailer crc b) ≡ false
+  sum_wrong crc n = same_false t (trailer crc b) (λ e. n (ap (λ (l : List ℕ). get_or l 0 0) e))
 
-pub same_three : (g : List ℕ) (at a b c : ℕ) → at + 3 ≡ length g
-    → same (drop at g) (a ∷ b ∷ c ∷ []) ≡ (eqb (get_or g at 0) a && (eqb (get_or g (at + 1) 0) b && eqb (get_or g (at + 2) 0) c))
-same_three g at a b c h =
-    let two : at + 1 + 1 ≡ at + 2 = omega arith in
-    rw (
-      same_step g at a (b ∷ c ∷ []) (omega arith),
-      same_step g (at + 1) b (c ∷ []) (omega arith),
-      two,
-      same_step g (at + 2) c [] (omega arith),
-      same_end g (at + 2 + 1) (omega arith),
-      and-true,
-    )
+  pub sum_right : length t ≡ 1 → get_or t 0 0 ≡ sum_of b → same t (trailer false b) ≡ true
+  sum_right l e =
+      let one : t ≡ trailer false b = drop-cons t 0 0 (omega arith) ∙ (λ i. e i ∷ drop_of_length-le t {i = 1} (omega arith) i) in
+      ap (λ (x : List ℕ). same x (trailer false b)) one ∙ same_refl (trailer false b)
 
--- what a test of the sum says of the whole trailer
-module _ (g b : List ℕ) (at : ℕ) (h : at < length g) (crc : Bool) where
-  pub trailer_wrong : (get_or g at 0 ≡ sum_of b → ⊥) → same (drop at g) (trailer crc b) ≡ false
-  trailer_wrong n = same_step g at (sum_of b) _ h ∙ rw (ne_eqb (get_or g at 0) (sum_of b) n)
-
-  pub trailer_crc : get_or g at 0 ≡ sum_of b → crc ≡ true → same (drop at g) (trailer crc b) ≡ same (drop (at + 1) g) (crc_bytes (crc16_of b))
-  trailer_crc e t = same_step g at (sum_of b) (cond crc (crc_bytes (crc16_of b)) []) h ∙ rw (eq-eqb (get_or g at 0) (sum_of b) e, t)
-
-  -- so by the answer that the three bytes of the CRC's value are compared with
-  trailer_said : get_or g at 0 ≡ sum_of b → crc ≡ true → (value : ℕ) → value ≡ crc16_of b → (r : Bool) → r ≡ same (drop (at + 1) g) (crc_bytes value)
-      → same (drop at g) (trailer crc b) ≡ r
-  trailer_said e t value v r s = trailer_crc e t ∙ sym (s ∙ ap (λ (n : ℕ). same (drop (at + 1) g) (crc_bytes n)) v)
-
-  pub trailer-plain : get_or g at 0 ≡ sum_of b → crc ≡ false → at + 1 ≡ length g → same (drop at g) (trailer crc b) ≡ true
-  trailer-plain e f l = same_step g at (sum_of b) _ h ∙ rw (eq-eqb (get_or g at 0) (sum_of b) e, f) (same_end g (at + 1) (omega arith))
-
--- a frame with a CRC has its trailer in the last four bytes
-pub last_four : (g : List ℕ) → 12 ≤ length g → get_or g (length g - 4) 0 ≡ sum_of (take (length g - 4) g) → (value : ℕ) → value ≡ crc16_of (take (length g - 4) g)
-    → (r : Bool) → r ≡ same (drop (length g - 4 + 1) g) (crc_bytes value) → same (drop (length g - 4) g) (trailer true (take (length g - 4) g)) ≡ r
-last_four g h e value v r s = trailer_said g (take (length g - 4) g) (length g - 4) (omega arith) true e refl value v r s
+  pub crc_said : (r : Bool) → length t ≡ 4 → get_or t 0 0 ≡ sum_of b → r ≡ ends_with nat_eq t (crc_bytes (crc16_of b)) → same t (trailer true b) ≡ r
+  crc_said true l e s =
+      let one : length t - 3 ≡ 1 = omega arith in
+      let four : t ≡ trailer true b =
+      drop-cons t 0 0 (omega arith)
+      ∙ (λ i. e i ∷ (ap (λ (k : ℕ). drop k t) (sym one) ∙ sym (same_text (crc_bytes (crc16_of b)) (drop (length t - 3) t) s)) i) in
+      ap (λ (x : List ℕ). same x (trailer true b)) four ∙ same_refl (trailer true b)
+  crc_said false l e s =
+      same_false t (trailer true b)
+      (λ h. other_text (crc_bytes (crc16_of b)) (drop (length t - 3) t) s (sym (ap (λ (x : List ℕ). drop (length x - 3) x) h)))
 
 -- ---- what the info says
 

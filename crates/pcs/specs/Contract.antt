@@ -1,21 +1,14 @@
 -- What the functions of the PCS link answer and leave, for every input.
 use Rattle.std.specs.Prelude.{ℕ, cond, List, length, take, eqb}
 use Rattle.std.proofs.Math.Option.{Option, none, some}
-use Rattle.framing.specs.Answer.{Outcome, done}
-use Rattle.framing.specs.Answer as Answer
 use Rattle.framing.specs.Segment.{Segment, noise, refused_frame, accepted_frame}
 use Rattle.framing.specs.State.{fresh_state, known_state, state_after}
-use Rattle.framing.specs.Link.{Link, Lent, Told, nothing, accepted, refused, data_at}
+use Rattle.framing.specs.Link.{Link, data_at}
 use Rattle.framing.specs.declared.State.{State}
 use Rattle.pcs.specs.Frame.{Typed, with_fields, ok, frame}
 use Rattle.pcs.specs.Frame as Frame
 use Rattle.pcs.specs.Rules.{Phase, hunting, inside, size, gathered, held, on_byte}
 use Rattle.pcs.specs.declared.Message.{Message}
-use Rattle.pcs.specs.declared.Event.{Event}
-use Rattle.pcs.specs.declared.Event.TheVariants.{Nothing, Accepted, Refused}
-use Rattle.pcs.specs.declared.Received.{Received}
-use Rattle.pcs.specs.declared.Whole.{Whole}
-use Rattle.pcs.specs.declared.Whole.TheVariants as whole
 
 -- the number of each phase: 0 hunting, 1 open
 abbrev pub mode_of : Phase → ℕ
@@ -88,18 +81,3 @@ link =
       numbers_of = numbers_of;
       message_of = message_of;
     }
-
--- each case of the receiver's answer
-abbrev pub told_of : Event → Told Message
-told_of Nothing = nothing
-told_of (Accepted m) = accepted m
-told_of (Refused n) = refused n
-
--- an answer with the store after the call
-abbrev pub received_of : Received → List ℕ → Told Message × ℕ × Lent link
-received_of r store = (told_of r.event, r.used, (r.state, store))
-
--- each case of a whole frame's answer
-abbrev pub whole_of : Whole → Outcome Message
-whole_of (whole.Accepted m) = done m
-whole_of (whole.Refused n) = Answer.refused n

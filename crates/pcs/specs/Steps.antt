@@ -5,17 +5,16 @@ use Rattle.framing.specs.Answer.{Outcome, done, refused}
 use Rattle.framing.specs.Tests.{first_of}
 use Rattle.framing.specs.Segment.{Segment, event_of}
 use Rattle.framing.specs.State.{state_after}
-use Rattle.framing.specs.Link.{Lent, Told, accepted, told}
+use Rattle.framing.specs.Link.{Told, accepted, told}
 use Rattle.framing.specs.Link as Link
-use Rattle.framing.specs.Passing.{Leads}
+use Rattle.framing.specs.Call.{told_of}
 use Rattle.framing.specs.declared.State.{State}
 use Rattle.pcs.specs.Frame.{trailer, trailing}
 use Rattle.pcs.specs.Frame as Frame
 use Rattle.pcs.specs.Rules.{Phase, size, plain_size, gathered, held, same}
-use Rattle.pcs.specs.Contract.{mode_of, numbers_with, link, told_of}
+use Rattle.pcs.specs.Contract.{mode_of, link}
 use Rattle.pcs.specs.declared.Message.{Message}
-use Rattle.pcs.specs.declared.Stepped.{Stepped}
-use Rattle.framing.specs.declared.Reached.{Reached}
+use Rattle.framing.specs.declared.link.Stepped.{Stepped}
 
 -- a message with this choice of a CRC
 abbrev pub with_crc : Bool → Frame.Message → Frame.Message
@@ -35,23 +34,22 @@ trailer_fault crc g =
     ∷ (not (same (drop end g) (trailer crc (take end g))), 8)
     ∷ [])
 
--- what is told of a message once its data are unpacked, or badly packed
-abbrev pub told_with : Frame.Message → Outcome ℕ → Told Message
-told_with m (done n) = accepted (numbers_with m n)
-told_with m (refused n) = Link.refused n
+-- a frame that is read as a message or refused, as it is told
+abbrev pub heard : Outcome Message → Told Message
+heard (done v) = accepted v
+heard (refused n) = Link.refused n
 
 -- what is answered of a byte by what the rules give: the phase after it, and the segment that it closes
-pub record ByRules (s : State) (c : Phase × Option (Segment Frame.Message)) (r : Stepped) : Type 0 where
-  pub tells : told_of r.event ≡ told link (event_of c.1)
+pub record ByRules (s : State) (c : Phase × Option (Segment Frame.Message)) (r : Stepped Message State) : Type 0 where
+  pub tells : told_of r.told ≡ told link (event_of c.1)
   pub state : r.state ≡ state_after mode_of gathered held s c.0 c.1
 
--- a frame is open, its bytes at the front of a store of the link's size
-pub record Open (s : State) (store : List ℕ) : Type 0 where
-  pub mode : s.mode ≡ 0 → ⊥
+-- a state and a store that bytes may come to: no more is counted than the size, and there is room for it
+pub record Ready (s : State) (store : List ℕ) : Type 0 where
   pub count : s.count ≤ size
   pub room : size ≤ length store
 
--- from place i of a piece so many bytes are passed at once, without an event
-pub record Passes (piece : List ℕ) (c : Lent link) (i : ℕ) (r : Reached) (after : List ℕ) : Type 0 where
-  pub leads : Leads link piece c i (r.state, after) r.next
-  pub count : r.state.count ≤ size
+-- a frame is open, its bytes at the front of the store
+pub record Open (s : State) (store : List ℕ) : Type 0 where
+  pub mode : s.mode ≡ 0 → ⊥
+  pub ready : Ready s store

@@ -1,7 +1,7 @@
 // The fields of a PCS frame.
 ghost use Rattle.std.specs.Prelude.{◌≡◌, [], ◌+◌, ◌*◌, ◌%◌};
 ghost use Rattle.packing.specs.Seven.{value_of};
-ghost use Rattle.pcs.specs.Frame.{plain_ok, receiver_ok, plain_fields_ok, kind_ok, trailing};
+ghost use Rattle.pcs.specs.Frame.{plain_ok, receiver_ok, plain_fields_ok, kind_ok, crc_bytes, trailing};
 ghost use Rattle.pcs.specs.Rules.{crc_info, info_ok};
 ghost use Rattle.pcs.specs.Contract.{with_data};
 
@@ -20,7 +20,7 @@ pub const INFO: u8 = 4;
 pub fn plain_ok(b: u8) -> bool
     ensures { result ≡ plain_ok b }
 {
-    1 <= b && b <= 250
+    (1..=250).contains(&b)
 }
 
 // Whether a receiver is allowed: 255 is everybody.
@@ -53,15 +53,25 @@ pub fn plain_fields_ok(message: Message) -> bool
 pub fn crc_info(info: u8) -> bool
     ensures { result ≡ crc_info info }
 {
-    12 <= info && info <= 15
+    (12..=15).contains(&info)
 }
 
 // Whether an info byte is allowed.
 pub fn info_ok(info: u8) -> bool
     ensures { result ≡ info_ok info }
 {
-    let high = info / 4;
-    high == 1 || high == 3
+    (4..=7).contains(&info) || crc_info(info)
+}
+
+// The bytes of a CRC of this value, lowest bits first: seven bits, seven bits, and the top two.
+pub fn crc_bytes(value: u16) -> [u8; 3]
+    ensures { result ≡ crc_bytes value }
+{
+    [
+        packing::sent_as((value % 128) as u8),
+        packing::sent_as((value / 128 % 128) as u8),
+        packing::sent_as((value / 16384) as u8),
+    ]
 }
 
 // How many bytes a trailer has.
@@ -82,5 +92,5 @@ pub fn kind_of(info: u8) -> u8
 pub fn stated_by(high: u8, low: u8) -> usize
     ensures { result ≡ value_of high * 128 + value_of low }
 {
-    packing::value_of(high) as usize * 128 + packing::value_of(low) as usize
+    usize::from(packing::value_of(high)) * 128 + usize::from(packing::value_of(low))
 }

@@ -10,7 +10,7 @@ ghost use Rattle.pcs.specs.Contract.{with_data};
 ghost use Rattle.pcs.specs.Steps.{with_crc, crc_marked};
 
 use super::{Message, fields};
-use framing::{Answer, refusal};
+use framing::{Answer, Refusal};
 
 // Whether a message may be sent.
 fn may_send(message: Message, data: &[u8]) -> bool
@@ -26,18 +26,18 @@ fn put_header(message: Message, packed: usize, out: &mut [u8])
     requires { (message.kind ≤ 3) × (packed < 16384) × (9 ≤ length out.old) }
     ensures { out.new ≡ sets out.old 0 (253 ∷ header (with_crc false (with_data message [])) packed) }
 {
-    let high = packing::sent_as((packed / 128) as u8);
-    let low = packing::sent_as((packed % 128) as u8);
-    let info = fields::INFO + message.kind;
-    out[0] = fields::START;
-    out[1] = message.receiver;
-    out[2] = message.sender;
-    out[3] = info;
-    out[4] = message.number;
-    out[5] = high;
-    out[6] = low;
-    out[7] = message.sender_port;
-    out[8] = message.receiver_port;
+    let header = [
+        fields::START,
+        message.receiver,
+        message.sender,
+        fields::INFO + message.kind,
+        message.number,
+        packing::sent_as((packed / 128) as u8),
+        packing::sent_as((packed % 128) as u8),
+        message.sender_port,
+        message.receiver_port,
+    ];
+    out[..9].copy_from_slice(&header);
 }
 
 // Stores the three bytes of a CRC of this value and the end mark from a place on.
@@ -45,13 +45,9 @@ fn put_crc(out: &mut [u8], at: usize, value: u16)
     requires { at + 4 ≤ length out.old }
     ensures { out.new ≡ sets out.old at (crc_bytes value ++ (254 ∷ [])) }
 {
-    let low = packing::sent_as((value % 128) as u8);
-    let middle = packing::sent_as((value / 128 % 128) as u8);
-    let top = packing::sent_as((value / 16384) as u8);
-    out[at] = low;
-    out[at + 1] = middle;
-    out[at + 2] = top;
-    out[at + 3] = fields::END;
+    let end = at + 3;
+    out[at..end].copy_from_slice(&fields::crc_bytes(value));
+    out[end] = fields::END;
 }
 
 // Stores the sum of the body, which stands behind the start mark up to a place and has this total, and the end mark from that place on.
@@ -60,8 +56,7 @@ fn put_end(out: &mut [u8], at: usize, total: u8)
     ensures { out.new
         ≡ sets out.old at (trailer false (take (at - 1) (drop 1 out.old)) ++ (254 ∷ [])) }
 {
-    let sum = checksum::sum_of_total(total);
-    out[at] = sum;
+    out[at] = checksum::sum_of_total(total);
     out[at + 1] = fields::END;
 }
 
@@ -72,8 +67,7 @@ fn put_crc_end(out: &mut [u8], at: usize)
         ≡ sets (crc_marked out.old) at
         (trailer true (take (at - 1) (drop 1 (crc_marked out.old))) ++ (254 ∷ [])) }
 {
-    let info = out[3] + 8;
-    out[3] = info;
+    out[3] += 8;
     let sum = checksum::sum(&out[1..at]);
     let value = checksum::crc16(0, &out[1..at]);
     out[at] = sum;
@@ -104,14 +98,10 @@ pub fn write_message(message: Message, data: &[u8], out: &mut [u8]) -> Answer
 {
     let packed = packing::packed_length(data);
     let plain = 11 + packed;
-    let fault = framing::write_fault(may_send(message, data), plain <= out.len());
-    if fault != 0 {
-        return Answer::Refused(fault);
-    }
+    framing::check_write(may_send(message, data), plain <= out.len())?;
     if message.crc && out.len() - plain < 3 {
-        return Answer::Refused(refusal::OUTPUT_SHORT);
+        return Err(Refusal::OutputShort);
     }
     put_frame(message, data, packed, out);
-    let end = 10 + packed + fields::trailing(message.crc);
-    Answer::Done(end)
+    Ok(10 + packed + fields::trailing(message.crc))
 }

@@ -5,13 +5,13 @@ use mathlib.Core.List.{List, ◌∷◌, ◌++◌, map}
 use native.Mathlib.Omega.{arith}
 use native.Mathlib.Numerals.{add-one}
 use native.Mathlib.Nat.{mul-suc, mul-le-mul_left, zero-add, mul-zero}
-use lib.ListN.{length, get_or, take, drop, set, drop_of_length-le, get_or-map, length-map}
-use lib.Seq.{sets, drop-cons, drop-drop}
+use lib.ListN.{length, get_or, drop, set, drop_of_length-le, get_or-map, length-map}
+use lib.Seq.{sets, drop-cons}
 use Rattle.runs.specs.Runs.{each}
-use Rattle.runs.specs.Number.{little_endian, bytes_of}
+use Rattle.runs.specs.Number.{bytes_of}
 use Rattle.runs.proofs.Number.{length-bytes_of}
 use Rattle.runs.proofs.Run.{Run, run-start, run-one, run-part, run_end, sets_append}
-use Rattle.record.specs.Numbers.{numbers, bytes_of_all}
+use Rattle.record.specs.Numbers.{numbers, number_at, bytes_of_all}
 use Rattle.record.specs.Fares.{Signedness, fares_in, elements}
 use Rattle.record.proofs.Numbers.{get_d_numbers, length-numbers, length-bytes_of_all}
 
@@ -27,10 +27,9 @@ module _ {A : Type 0} (F : Signedness A) (r : List ℕ) (size count : ℕ) where
   pub length-fares : length fares ≡ count
   length-fares = simp (length-map, length-numbers)
 
-  pub fare-at : (i : ℕ) → i < count → get_or fares i (F.fare_of size 0) ≡ F.fare_of size (little_endian (take size (drop (5 + size * i) r)))
+  pub fare-at : (i : ℕ) → i < count → get_or fares i (F.fare_of size 0) ≡ F.fare_of size (number_at size (drop 5 r) i)
   fare-at i l =
-      get_or-map (F.fare_of size) (numbers size count (drop 5 r)) i 0
-      ∙ ap (F.fare_of size) (get_d_numbers size count (drop 5 r) i l ∙ rw drop-drop)
+      get_or-map (F.fare_of size) (numbers size count (drop 5 r)) i 0 ∙ ap (F.fare_of size) (get_d_numbers size count (drop 5 r) i l)
 
   -- i fares are stored
   abbrev pub Filled : List A → ℕ → List A → Type 0
@@ -40,7 +39,7 @@ module _ {A : Type 0} (F : Signedness A) (r : List ℕ) (size count : ℕ) where
   fill_start out₀ h = run-start (omega (arith, length-fares)) refl
 
   pub fill_step : {out₀ out : List A} (i : ℕ) (a : A) → Filled out₀ i out → i < count
-      → a ≡ F.fare_of size (little_endian (take size (drop (5 + size * i) r))) → Filled out₀ (i + 1) (set out i a)
+      → a ≡ F.fare_of size (number_at size (drop 5 r) i) → Filled out₀ (i + 1) (set out i a)
   fill_step {out₀} {out} i a run l e =
       let next : drop i fares ≡ get_or fares i (F.fare_of size 0) ∷ drop (i + 1) fares =
       rw add-one (drop-cons fares i (F.fare_of size 0) (rw length-fares l)) in

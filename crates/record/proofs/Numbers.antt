@@ -9,12 +9,13 @@ use lib.Dec.{ltb}
 use lib.ListN.{length, get_or, take, drop, length-append, length-take, length-drop, take-append-drop}
 use lib.Seq.{length-take-le, take_at, drop_at, drop-drop}
 use borrow.Author.Tests.{ltb-true, lt-ltb}
+use Rattle.std.specs.List.{list_all}
 use Rattle.runs.specs.Runs.{Bytes, each}
 use Rattle.runs.specs.Number.{little_endian, bytes_of}
 use Rattle.runs.proofs.Bytes.{bytes_drop, bytes_take}
 use Rattle.runs.proofs.Cases.{and_both}
 use Rattle.runs.proofs.Number.{number_lt, length-bytes_of, number_bytes_of, bytes_of_number}
-use Rattle.record.specs.Numbers.{numbers, number_at, bytes_of_all, every}
+use Rattle.record.specs.Numbers.{numbers, number_at, bytes_of_all}
 
 -- size bytes hold a number
 abbrev pub fits : ℕ → ℕ → Bool
@@ -42,11 +43,11 @@ length-bytes_of_all size [] = rw mul-zero
 length-bytes_of_all size (n ∷ ns) =
     rw (length-append, length-bytes_of, length-bytes_of_all size ns) (omega (arith, mul-suc size (length ns)))
 
-pub numbers-bytes_of_all : (size : ℕ) (ns : List ℕ) → every (fits size) ns ≡ true → numbers size (length ns) (bytes_of_all size ns) ≡ ns
-unfolding numbers each every
+pub numbers-bytes_of_all : (size : ℕ) (ns : List ℕ) → list_all (fits size) ns ≡ true → numbers size (length ns) (bytes_of_all size ns) ≡ ns
+unfolding numbers each
 numbers-bytes_of_all size [] e = refl
 numbers-bytes_of_all size (n ∷ ns) e =
-    let h : (fits size n ≡ true) × (every (fits size) ns ≡ true) = and_both _ _ e in
+    let h : (fits size n ≡ true) × (list_all (fits size) ns ≡ true) = and_both _ _ e in
     let l : length (bytes_of size n) ≡ size = length-bytes_of size n in
     rw (take_at (bytes_of size n) (bytes_of_all size ns) size l, drop_at (bytes_of size n) (bytes_of_all size ns) size l, number_bytes_of size n (ltb-true n (256 ^ size) h.0))
     (ap (λ m. n ∷ m) (numbers-bytes_of_all size ns h.1))
@@ -67,8 +68,8 @@ bytes_of_all-numbers size (suc k) bs h l =
     bytes_of_all-numbers size k (drop size bs) (bytes_drop size bs h) (rw length-drop (omega arith)) in
     rw (first, rest) (take-append-drop size bs)
 
-pub every-numbers : (size k : ℕ) (bs : List ℕ) → Bytes bs → every (fits size) (numbers size k bs) ≡ true
-unfolding numbers every
+pub every-numbers : (size k : ℕ) (bs : List ℕ) → Bytes bs → list_all (fits size) (numbers size k bs) ≡ true
+unfolding numbers
 every-numbers size zero bs h = refl
 every-numbers size (suc k) bs h =
     let l : length (take size bs) ≤ size = rw length-take (omega arith) in

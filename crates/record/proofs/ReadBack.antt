@@ -7,8 +7,9 @@ use mathlib.Core.Option.{some}
 use native.Mathlib.Omega.{arith}
 use lib.Dec.{lit≤}
 use lib.ListN.{length, get_or, take, drop, get_elem?, length-append, length-map, length-drop, length-take}
-use lib.Seq.{sets, take_at, drop_at, drop-drop}
+use lib.Seq.{sets, take_at, drop_at}
 use borrow.Author.Tests.{le-leb, lt-ltb}
+use Rattle.std.specs.List.{list_all}
 use Rattle.runs.specs.Runs.{Bytes, over}
 use Rattle.runs.specs.Number.{little_endian, bytes_of}
 use Rattle.runs.proofs.Bytes.{bytes_drop, bytes_take}
@@ -17,7 +18,7 @@ use Rattle.runs.proofs.Number.{number_bytes_of, length-bytes_of}
 use Rattle.runs.proofs.Run.{part_sets}
 use Rattle.framing.specs.Answer.{done}
 use Rattle.framing.proofs.Stored.{stored_done, writes_stored}
-use Rattle.record.specs.Numbers.{numbers, every}
+use Rattle.record.specs.Numbers.{numbers}
 use Rattle.record.specs.Form.{size_of, signed_of, kind_of, address_of, count_of, allowed, well_formed}
 use Rattle.record.specs.Fares.{Signedness, unsigned_fares, signed_fares, same, fares_of, fare_at, writable, elements, record_bytes}
 use Rattle.record.specs.Answers.{copying, reading, writing}
@@ -53,11 +54,11 @@ module _ {A : Type 0} (F : Signedness A) where
     abbrev sent-elements : List ℕ
     sent-elements = elements F (size_of kind) l
 
-    tests : (same F.signed (signed_of kind) ≡ true) × ((allowed kind address (length l) ≡ true) × (every (F.holds (size_of kind)) l ≡ true))
+    tests : (same F.signed (signed_of kind) ≡ true) × ((allowed kind address (length l) ≡ true) × (list_all (F.holds (size_of kind)) l ≡ true))
     unfolding writable
     tests =
-        let h = and_both (same F.signed (signed_of kind)) (allowed kind address (length l) && every (F.holds (size_of kind)) l) w in
-        (h.0, and_both (allowed kind address (length l)) (every (F.holds (size_of kind)) l) h.1)
+        let h = and_both (same F.signed (signed_of kind)) (allowed kind address (length l) && list_all (F.holds (size_of kind)) l) w in
+        (h.0, and_both (allowed kind address (length l)) (list_all (F.holds (size_of kind)) l) h.1)
 
     facts : Allowed kind address (length l)
     facts = allowed_facts kind address (length l) tests.1.0
@@ -113,8 +114,7 @@ module _ {A : Type 0} (F : Signedness A) where
         let h = there l i a (F.fare_of (size_of kind) 0) q in
         let m : i < count_of sent = rw found_count h.0 in
         let e : fare_at F sent i ≡ a =
-        ap (λ (bs : List ℕ). F.fare_of (size_of kind) (little_endian (take (size_of kind) bs))) (drop-drop (size_of kind * i) 5 sent)
-        ∙ sym (fare-at F sent (size_of kind) (count_of sent) i m)
+        sym (fare-at F sent (size_of kind) (count_of sent) i m)
         ∙ ap (λ (m : List A). get_or m i (F.fare_of (size_of kind) 0)) written-fares
         ∙ h.1 in
         rw (written_formed, tests.0, lt-ltb i (count_of sent) m, e)
@@ -133,7 +133,7 @@ module _ {A : Type 0} (F : Signedness A) where
     abbrev ns : List ℕ
     ns = numbers size (count_of r) (drop 5 r)
 
-    their_fits : every (fits size) ns ≡ true
+    their_fits : list_all (fits size) ns ≡ true
     their_fits = every-numbers size (count_of r) (drop 5 r) (bytes_drop 5 r bytes)
 
     fares_count : length (fares_of F r) ≡ count_of r

@@ -1,16 +1,17 @@
 -- Both signednesses are sound: within a size, fares and numbers stand for each other.
 use Prim.Native.Nat.{ℕ, suc, ◌-◌, ◌/◌, ◌^◌, ◌≤◌, ◌<◌}
 use mathlib.Core.Path.{◌≡◌, refl}
-use mathlib.Core.Bool.{Bool, true, false}
+use mathlib.Core.Bool.{Bool, true, false, false≢true}
 use native.Mathlib.Omega.{arith}
 use lib.Dec.{ltb}
 use lib.IntN.{ℤ, pos, negsuc}
 use lib.Signed.{mag}
 use borrow.Author.Tests.{lt-ltb, le-ltb, ltb-true, ltb-false}
-use Rattle.record.specs.Form.{size_of, signed_of}
+use Rattle.std.specs.Prelude.{Option, Some, None}
+use Rattle.record.specs.declared.form.Form.{Form}
+use Rattle.record.specs.Form.{form_of, size_in, signed_in, size_of, signed_of}
 use Rattle.record.specs.Fares.{Signedness, unsigned_fares, signed_fares, same, signed_fare, signed_number}
 use Rattle.record.proofs.Numbers.{fits}
-use Rattle.record.proofs.Forms.{is_signed_size}
 use Rattle.record.proofs.Complement.{Halves, halves}
 
 pub record Lawful {A : Type 0} (F : Signedness A) (size : ℕ) : Type 0 where
@@ -50,9 +51,13 @@ module _ (size : ℕ) (h : Halves size) where
   signed_forth n true e f = rw e
   signed_forth n false e f = let m : n < 256 ^ size = ltb-true _ _ f in rw e (omega arith)
 
+signed_halves : (f : Option Form) → signed_in f ≡ true → Halves (size_in f)
+signed_halves (Some f) e = halves f.size
+signed_halves None e = absurd (false≢true e)
+
 pub signed_sound : Sound signed_fares
 signed_sound kind e =
-    let h : Halves (size_of kind) = halves (size_of kind) (is_signed_size kind e) in
+    let h : Halves (size_of kind) = signed_halves (form_of kind) e in
     record {
       below = signed_below (size_of kind) h;
       back = signed_back (size_of kind) h;

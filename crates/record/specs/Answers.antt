@@ -1,16 +1,14 @@
 -- What each call answers, a value or a number of 01's table, and what it leaves in lent memory.
-use Rattle.std.specs.Prelude.{ℕ, List, Bool, cond, ◌&&◌, length, leb, ltb, eqb, ℤ}
+use Rattle.std.specs.Prelude.{ℕ, List, Bool, cond, ◌&&◌, length, leb, ltb, eqb, ℤ, Option, Some, None, Result, Ok, Err}
 use Rattle.runs.specs.Runs.{over}
 use Rattle.framing.specs.Answer.{Outcome, done, refused}
+use Rattle.framing.specs.Number.{number_of}
 use Rattle.framing.specs.Writer.{writes}
+use Rattle.framing.specs.declared.refusal.Refusal.{Refusal}
 use Rattle.record.specs.Form.{signed_of, kind_of, count_of, well_formed}
 use Rattle.record.specs.Fares.{Signedness, unsigned_fares, signed_fares, same, fares_of, fare_at, writable, record_bytes}
-use Rattle.record.specs.declared.Element.{Element}
-use Rattle.record.specs.declared.Element.TheVariants as element
-use Rattle.record.specs.declared.UnsignedElement.{UnsignedElement}
-use Rattle.record.specs.declared.UnsignedElement.TheVariants as unsigned_element
-use Rattle.record.specs.declared.SignedElement.{SignedElement}
-use Rattle.record.specs.declared.SignedElement.TheVariants as signed_element
+use Rattle.record.specs.declared.fare.Element.{Element}
+use Rattle.record.specs.declared.fare.Element.TheVariants.{Unsigned, Signed}
 
 module _ {A : Type 0} (F : Signedness A) where
   -- copying: 16, 17, 2; else the count, and the fares at the start of the run
@@ -33,34 +31,25 @@ module _ {A : Type 0} (F : Signedness A) where
   unfoldable pub writing : ℕ → ℕ → List A → List ℕ → Outcome ℕ × List ℕ
   writing kind address fares memory = writes (writable F kind address) (record_bytes F kind address) fares memory
 
--- each case of the enums: the fare, or the number of the refusal
-abbrev pub unsigned_outcome : UnsignedElement → Outcome ℕ
-unsigned_outcome (unsigned_element.Fare n) = done n
-unsigned_outcome (unsigned_element.Refused n) = refused n
-
-abbrev pub signed_outcome : SignedElement → Outcome ℤ
-signed_outcome (signed_element.Fare z) = done z
-signed_outcome (signed_element.Refused n) = refused n
+-- what stands at an element number: a fare, or 18
+abbrev pub present : {A : Type 0} → Option A → Outcome A
+present (Some a) = done a
+present None = refused 18
 
 -- each case of an element, where an unsigned fare is asked for, ..
 abbrev pub asked_unsigned : Element → Outcome ℕ
-asked_unsigned (element.Unsigned n) = done n
-asked_unsigned (element.Signed z) = refused 17
-asked_unsigned element.UnsignedAbsent = refused 18
-asked_unsigned element.SignedAbsent = refused 17
-asked_unsigned element.Malformed = refused 16
+asked_unsigned (Unsigned fare) = present fare
+asked_unsigned (Signed fare) = refused 17
 
 -- .. and where a signed one is
 abbrev pub asked_signed : Element → Outcome ℤ
-asked_signed (element.Unsigned n) = refused 17
-asked_signed (element.Signed z) = done z
-asked_signed element.UnsignedAbsent = refused 17
-asked_signed element.SignedAbsent = refused 18
-asked_signed element.Malformed = refused 16
+asked_signed (Unsigned fare) = refused 17
+asked_signed (Signed fare) = present fare
 
--- both together
-abbrev pub outcomes_of : Element → Outcome ℕ × Outcome ℤ
-outcomes_of e = (asked_unsigned e, asked_signed e)
+-- both together, and where there is no element
+abbrev pub outcomes_of : Result Element Refusal → Outcome ℕ × Outcome ℤ
+outcomes_of (Ok e) = (asked_unsigned e, asked_signed e)
+outcomes_of (Err r) = (refused (number_of r), refused (number_of r))
 
 -- one element, asked for as unsigned and as signed
 abbrev pub element_of : List ℕ → ℕ → Outcome ℕ × Outcome ℤ

@@ -1,8 +1,9 @@
 -- 01, "Fare records": the fares that a record holds, and the record of given fares, once for both signednesses.
 use Rattle.std.specs.Prelude.{ℕ, suc, ◌-◌, ◌/◌, ◌^◌, List, ◌∷◌, ◌++◌, map, Bool, true, false, cond, not, ◌&&◌, length, drop, ltb, ℤ, pos, negsuc}
+use Rattle.std.specs.List.{list_all}
 use Rattle.std.specs.Int.Signed.{mag}
 use Rattle.runs.specs.Number.{bytes_of}
-use Rattle.record.specs.Numbers.{numbers, number_at, bytes_of_all, every}
+use Rattle.record.specs.Numbers.{numbers, number_at, bytes_of_all}
 use Rattle.record.specs.Form.{size_of, signed_of, kind_of, count_of, allowed}
 
 -- how fares of one signedness stand for numbers of a size: the fare of a number, the number of a fare, and which fares a size can hold
@@ -49,7 +50,7 @@ module _ {A : Type 0} (F : Signedness A) where
   -- fares may be written: the type is of their signedness, the header is allowed, and the type can hold each of them
   unfoldable pub writable : ℕ → ℕ → List A → Bool
   writable kind address fares =
-      same F.signed (signed_of kind) && (allowed kind address (length fares) && every (F.holds (size_of kind)) fares)
+      same F.signed (signed_of kind) && (allowed kind address (length fares) && list_all (F.holds (size_of kind)) fares)
 
   -- fares as elements of a size
   abbrev pub elements : ℕ → List A → List ℕ

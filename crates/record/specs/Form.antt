@@ -1,33 +1,51 @@
 -- 01, "Fare records": the decision over the type, the fields of a record's header, and which records are well formed.
-use Rattle.std.specs.Prelude.{ℕ, ◌+◌, ◌*◌, List, Bool, true, false, cond, ◌&&◌, length, get_or, take, drop, leb, ltb, eqb}
+use Rattle.std.specs.Prelude.{ℕ, ◌+◌, ◌*◌, List, Bool, true, false, cond, ◌&&◌, length, get_or, take, drop, leb, ltb, eqb, Option, Some, None}
 use Rattle.runs.specs.Number.{little_endian}
 use Rattle.record.specs.declared.form.Form.{Form}
-use Rattle.record.specs.declared.form.Header.{Header}
+use Rattle.record.specs.declared.form.Size.{Size}
+use Rattle.record.specs.declared.form.Size.TheVariants.{One, Two, Four}
+
+-- how many bytes an element of a size has
+abbrev pub bytes_in : Size → ℕ
+bytes_in One = 1
+bytes_in Two = 2
+bytes_in Four = 4
 
 -- a form by its element size, signedness, and limit of address plus count
-abbrev pub form : ℕ → Bool → ℕ → Form
-form s b l = record { size = s; signed = b; limit = l }
+abbrev pub form : Size → Bool → ℕ → Option Form
+form s b l = Some (record { size = s; signed = b; limit = l })
 
--- the decision over the type, from 1 on: byte, word, integer, long integer, double word; any other number has size and limit 0 (free in
--- the papers: it is not a type)
-unfoldable pub form_of : ℕ → Form
+-- the decision over the type, from 1 on: byte, word, integer, long integer, double word; no other number is a type
+unfoldable pub form_of : ℕ → Option Form
 form_of kind =
-    cond (eqb kind 1) (form 1 false 2000)
-    (cond (eqb kind 2) (form 2 false 1000)
-    (cond (eqb kind 3) (form 2 true 1000)
-    (cond (eqb kind 4) (form 4 true 500)
-    (cond (eqb kind 5) (form 4 false 500)
-    (form 0 false 0)))))
+    cond (eqb kind 1) (form One false 2000)
+    (cond (eqb kind 2) (form Two false 1000)
+    (cond (eqb kind 3) (form Two true 1000)
+    (cond (eqb kind 4) (form Four true 500)
+    (cond (eqb kind 5) (form Four false 500)
+    None))))
 
--- each part of the decision by itself
+-- each part of the decision by itself; of what is no type, where the papers leave them free, size and limit are 0
+abbrev pub size_in : Option Form → ℕ
+size_in (Some f) = bytes_in f.size
+size_in None = 0
+
+abbrev pub signed_in : Option Form → Bool
+signed_in (Some f) = f.signed
+signed_in None = false
+
+abbrev pub limit_in : Option Form → ℕ
+limit_in (Some f) = f.limit
+limit_in None = 0
+
 abbrev pub size_of : ℕ → ℕ
-size_of kind = (form_of kind).size
+size_of kind = size_in (form_of kind)
 
 abbrev pub signed_of : ℕ → Bool
-signed_of kind = (form_of kind).signed
+signed_of kind = signed_in (form_of kind)
 
 abbrev pub limit_of : ℕ → ℕ
-limit_of kind = (form_of kind).limit
+limit_of kind = limit_in (form_of kind)
 
 -- the type
 abbrev pub kind_of : List ℕ → ℕ
@@ -52,10 +70,6 @@ well_formed r =
     leb 5 (length r)
     && (allowed (kind_of r) (address_of r) (count_of r) && eqb (length r) (5 + size_of (kind_of r) * count_of r))
 
--- a header by its type and count
-abbrev pub header : ℕ → ℕ → Header
-header k n = record { kind = k; count = n }
-
 -- the type and the count of a well-formed record; of any other run, where the papers leave them free, 0 and 0
-unfoldable pub header_of : List ℕ → Header
-header_of r = cond (well_formed r) (header (kind_of r) (count_of r)) (header 0 0)
+unfoldable pub header_of : List ℕ → ℕ × ℕ
+header_of r = cond (well_formed r) (kind_of r, count_of r) (0, 0)

@@ -1,5 +1,5 @@
--- Lists of numbers of one size in bytes, low byte first, and a test of every element. Nothing here knows of records.
-use Rattle.std.specs.Prelude.{ℕ, zero, suc, ◌*◌, List, [], ◌∷◌, Bool, true, ◌&&◌, take, drop}
+-- Lists of numbers of one size in bytes, low byte first. Nothing here knows of records.
+use Rattle.std.specs.Prelude.{ℕ, zero, suc, ◌*◌, List, [], ◌∷◌, take, drop}
 use Rattle.runs.specs.Runs.{each}
 use Rattle.runs.specs.Number.{little_endian, bytes_of}
 
@@ -15,8 +15,3 @@ number_at size bs i = little_endian (take size (drop (size * i) bs))
 -- numbers as bytes, size bytes each
 abbrev pub bytes_of_all : ℕ → List ℕ → List ℕ
 bytes_of_all size ns = each (bytes_of size) ns
-
--- a test holds of every element
-unfoldable pub every : {A : Type 0} → (A → Bool) → List A → Bool
-every p [] = true
-every p (a ∷ l) = p a && every p l

@@ -1,9 +1,12 @@
 -- The elements of a run before the first from low to high.
 use Rattle.std.proofs.Common.{◌≡◌, ℕ, zero, suc, ◌+◌, ◌<◌, ◌≤◌, Bool, true, false, cond, List, [], ◌∷◌, length, get_or, drop, sym, refl, ap, ◌∙◌, true≢false, arith, le-leb}
-use lib.Seq.{drop-length}
+use Rattle.std.proofs.Common.{Option, Some, None, unwrap_or}
+use Rattle.std.specs.List.{position_or_len}
+use Rattle.std.proofs.lemmas.List.Recursion.{is_position_or_len}
+use lib.Dec.{ltb}
 use Rattle.runs.specs.Runs.{between, before}
 use Rattle.runs.proofs.Bytes.{drop-next}
-use Rattle.runs.proofs.Cases.{by_test}
+use Rattle.runs.proofs.Cases.{by_test, by_ltb}
 
 pub first-not : (t : Bool) (n : ℕ) → 0 < cond t 0 (suc n) → t ≡ false
 first-not true n h = absurd (omega arith)
@@ -47,6 +50,12 @@ module _ (low high : ℕ) where
     unfolding before
     before-next h e = ap (before low high) (drop-next l k h) ∙ rw e (omega arith)
 
-    pub before_end : k ≡ length l → before low high (drop k l) ≡ 0
-    unfolding before
-    before_end e = rw (e, drop-length)
+  -- and the library's `position` finds the first mark
+  pub before_found : (bs : List ℕ) {r : ℕ} {o : Option ℕ} → r ≡ unwrap_or o (length bs)
+      → o ≡ cond (ltb (position_or_len (between low high) bs) (length bs)) (Some (position_or_len (between low high) bs)) None → r ≡ before low high bs
+  unfolding before
+  before_found bs {r} {o} e f =
+      let first : before low high bs ≡ position_or_len (between low high) bs =
+      is_position_or_len (before low high) (between low high) refl (λ b l. ap (cond (between low high b) 0) (omega arith)) bs in
+      e ∙ ap (λ (x : Option ℕ). unwrap_or x (length bs)) f ∙ rw (← first)
+      (by_ltb (λ (x : Option ℕ). unwrap_or x (length bs) ≡ before low high bs) (before low high bs) (length bs) (λ _. refl) (λ h. omega (arith, before_within bs)))

@@ -1,6 +1,6 @@
 -- Laws of numbers as bytes, low byte first, over the size.
-use Rattle.std.proofs.Common.{◌≡◌, ℕ, zero, suc, ◌+◌, ◌-◌, ◌*◌, ◌/◌, ◌%◌, ◌^◌, ◌<◌, ◌≤◌, min, List, [], ◌∷◌, ◌++◌, length, get_or, take, drop, set, refl, ap, ◌∙◌, append-nil, add-zero, div-lt_iff_lt-mul, pow-suc, div-add-mod', arith, lit<, length-drop, drop_of_length-le, length-take, get_or-drop, drop-cons, get_or-take}
-use native.Mathlib.Nat.{pow-zero, one-le-pow, sub-zero, min-eq_left}
+use Rattle.std.proofs.Common.{◌≡◌, ℕ, zero, suc, ◌+◌, ◌-◌, ◌*◌, ◌/◌, ◌%◌, ◌^◌, ◌<◌, ◌≤◌, min, List, [], ◌∷◌, ◌++◌, length, get_or, take, drop, set, refl, ap, ◌∙◌, append-nil, div-lt_iff_lt-mul, pow-suc, div-add-mod', arith, lit<, length-drop, drop_of_length-le, length-take, get_or-drop, drop-cons, get_or-take}
+use native.Mathlib.Nat.{pow-zero, one-le-pow, min-eq_left}
 use native.Mathlib.Decide.{dec_le}
 use lib.Arith.{digits_lt, digits_div, digits_mod}
 use lib.Seq.{drop-length, sets, set_out}
@@ -73,9 +73,6 @@ sized_lt s at size n h e = rw e (part_lt s at size 0 size h (omega arith))
 pub sets_beyond : (vs out : List ℕ) (at : ℕ) → length out ≤ at → sets out at vs ≡ out
 sets_beyond [] out at l = refl
 sets_beyond (v ∷ vs) out at l = rw (set_out out at v l) (sets_beyond vs out (suc at) (omega arith))
-
-pub put_start : (out : List ℕ) (at size n : ℕ) → sets out (at + 0) (bytes_of (size - 0) n) ≡ sets out at (bytes_of size n)
-put_start out at size n = rw (add-zero, sub-zero)
 
 pub put_step : (out : List ℕ) (at size k n : ℕ) → k < size
     → sets (set out (at + k) (n % 256)) (at + (k + 1)) (bytes_of (size - (k + 1)) (n / 256)) ≡ sets out (at + k) (bytes_of (size - k) n)

@@ -9,18 +9,11 @@ ghost use Rattle.runs.specs.Runs.{between, before};
 ghost use Rattle.runs.specs.Number.{little_endian, bytes_of};
 ghost use Rattle.runs.specs.Total.{total_from};
 
-// The smaller of two numbers.
+// The smaller of two numbers, as `usize::min` has it: docs/CLAIMS.md names this function.
 pub fn least(a: usize, b: usize) -> usize
     ensures { result ≡ min a b }
 {
-    if a < b { a } else { b }
-}
-
-// How many places a run of n has from a place on.
-fn left(n: usize, at: usize) -> usize
-    ensures { result ≡ n - at }
-{
-    if at < n { n - at } else { 0 }
+    a.min(b)
 }
 
 // Whether so many bytes fit at a place of a memory.
@@ -34,12 +27,10 @@ pub fn fits(at: usize, size: usize, memory: usize) -> bool
 pub fn number_at(s: &[u8], at: usize, size: usize) -> u32
     ensures { result ≡ little_endian (take (min size 4) (drop at s.now)) }
 {
-    let mut n: u32 = 0;
-    let mut k = least(least(size, 4), left(s.len(), at));
-    while 0 < k {
-        k -= 1;
-        let b = s[at + k] as u32;
-        n = n * 256 + b;
+    let many = size.min(4).min(s.len().saturating_sub(at));
+    let mut n = 0;
+    for k in (0..many).rev() {
+        n = n * 256 + u32::from(s[at + k]);
     }
     n
 }
@@ -48,13 +39,11 @@ pub fn number_at(s: &[u8], at: usize, size: usize) -> u32
 pub fn put_number(out: &mut [u8], at: usize, size: usize, n: u32)
     ensures { out.new ≡ sets out.old at (bytes_of size n) }
 {
-    let stop = least(size, left(out.len(), at));
+    let stop = size.min(out.len().saturating_sub(at));
     let mut rest = n;
-    let mut k = 0;
-    while k < stop {
+    for k in 0..stop {
         out[at + k] = (rest % 256) as u8;
-        rest = rest / 256;
-        k += 1;
+        rest /= 256;
     }
 }
 
@@ -62,7 +51,7 @@ pub fn put_number(out: &mut [u8], at: usize, size: usize, n: u32)
 pub fn is_between(low: u8, high: u8, byte: u8) -> bool
     ensures { result ≡ between low high byte }
 {
-    low <= byte && byte <= high
+    (low..=high).contains(&byte)
 }
 
 // How many bytes of a run lie before its first mark; all of them where it has none.
@@ -70,14 +59,9 @@ pub fn count_before(low: u8, high: u8, s: &[u8]) -> usize
     ensures count { result ≡ before low high s.now }
     ensures within { result ≤ length s.now }
 {
-    let mut k = 0;
-    while k < s.len() {
-        if is_between(low, high, s[k]) {
-            return k;
-        }
-        k += 1;
-    }
-    k
+    s.iter()
+        .position(|byte| is_between(low, high, *byte))
+        .unwrap_or(s.len())
 }
 
 // Stores the bytes of a run before its first mark from a place on, at most so many and as far as the slice goes, and tells how many.
@@ -86,28 +70,21 @@ pub fn copy_before(low: u8, high: u8, s: &[u8], out: &mut [u8], at: usize, most:
     ensures within { (result ≤ most) × (result ≤ length s.now) }
     ensures stored { out.new ≡ sets out.old at (take result s.now) }
 {
-    let stop = least(least(most, left(out.len(), at)), s.len());
-    let mut k = 0;
-    while k < stop {
-        let byte = s[k];
-        if is_between(low, high, byte) {
+    let stop = most.min(out.len().saturating_sub(at)).min(s.len());
+    for (k, byte) in s[..stop].iter().enumerate() {
+        if is_between(low, high, *byte) {
             return k;
         }
-        out[at + k] = byte;
-        k += 1;
+        out[at + k] = *byte;
     }
-    k
+    stop
 }
 
 // The bytes added up from a start, modulo 256.
 pub fn total(start: u8, bytes: &[u8]) -> u8
     ensures { result ≡ total_from start bytes.now }
 {
-    let mut r = start;
-    let mut i = 0;
-    while i < bytes.len() {
-        r = std::num::wrapping_add_u8(r, bytes[i]);
-        i += 1;
-    }
-    r
+    bytes
+        .iter()
+        .fold(start, |total, byte| total.wrapping_add(*byte))
 }

@@ -1,3 +1,4 @@
 pub mod Counted
 pub mod Laid
 pub mod Words
+pub mod Links

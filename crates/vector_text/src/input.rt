@@ -15,6 +15,7 @@ pub fn read_full<R: Read>(input: &mut R, out: &mut [u8]) -> io::Result<usize>
         × Consumes (R.remaining input.old) (R.remaining input.new) (take n out.new)) }
     ensures end { IfOk result (λ n. n < length out.new → IsAtEnd (R.remaining input.new)) }
 {
+    // by hand: `read_exact` refuses an input that ends before the lent memory is full, and `read_to_end` fills no lent memory
     let mut done = 0;
     while done < out.len() {
         let n = input.read(&mut out[done..])?;

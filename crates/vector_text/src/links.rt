@@ -1,8 +1,26 @@
-// The four links, each by the first letter of its name.
-pub const PCS: u8 = b'p';
+// The four links, each by the first letter of its name in a line.
+ghost use Rattle.std.specs.Prelude.{◌≡◌};
+ghost use Rattle.vector_text.specs.Links.{link_of};
 
-// The MDU link.
-pub const MDU: u8 = b'm';
+// A `match` on it is no `dyn`: what the programs call on a link has types and functions without a value.
+#[derive(Clone, Copy, Debug, PartialEq, Eq)]
+pub enum Link {
+    Pcs,
+    Mdu,
+    Dle,
+    Expansion,
+}
 
-// The DLE link.
-pub const DLE: u8 = b'd';
+// Any other letter, or none, is that of expansion.
+impl From<u8> for Link {
+    ghost from_gives = { λ letter link. link ≡ link_of letter };
+
+    fn from(letter: u8) -> Link {
+        match letter {
+            b'p' => Link::Pcs,
+            b'm' => Link::Mdu,
+            b'd' => Link::Dle,
+            _ => Link::Expansion,
+        }
+    }
+}

@@ -1,9 +1,9 @@
 // What is printed of an answer: words, each behind a space. No contract can say what is written; what is lent stays as it came. A write that fails
 // ends the call with its error, and what came before it is written.
-ghost use Rattle.std.specs.Prelude.{◌≡◌, ◌<◌};
+ghost use Rattle.std.specs.Prelude.{◌≡◌};
 
 use crate::memory;
-use framing::Answer;
+use framing::{Answer, Refusal};
 use std::io;
 
 // Bytes as they are.
@@ -39,7 +39,7 @@ pub fn numbers(rt: &impl Print, name: &[u8], values: &[u8]) -> io::Result<()>
 {
     word(rt, name)?;
     for value in values {
-        next(rt, memory::wide(*value))?;
+        next(rt, u64::from(*value))?;
     }
     Ok(())
 }
@@ -52,24 +52,13 @@ pub fn named(rt: &impl Print, name: &[u8], value: u64) -> io::Result<()>
     next(rt, value)
 }
 
-fn digit(value: u8) -> u8
-    requires { value < 16 }
-{
-    if value < 10 { value + 48 } else { value + 55 }
-}
-
-fn hex_byte(rt: &impl Print, byte: u8) -> io::Result<()> {
-    let pair = [digit(byte / 16), digit(byte % 16)];
-    text(rt, &pair)
-}
-
 // Bytes in upper-case hex, behind a space.
 pub fn hex(rt: &impl Print, bytes: &[u8]) -> io::Result<()>
     ensures { bytes.exit.now ≡ bytes.entry.now }
 {
     text(rt, b" ")?;
     for byte in bytes {
-        hex_byte(rt, *byte)?;
+        print!(rt; "{byte:02X}")?;
     }
     Ok(())
 }
@@ -78,7 +67,7 @@ pub fn hex(rt: &impl Print, bytes: &[u8]) -> io::Result<()>
 pub fn bytes(rt: &impl Print, bytes: &[u8]) -> io::Result<()>
     ensures { bytes.exit.now ≡ bytes.entry.now }
 {
-    if bytes.len() == 0 {
+    if bytes.is_empty() {
         word(rt, b"-")
     } else if 64 < bytes.len() {
         word(rt, b"long")
@@ -94,18 +83,23 @@ pub fn mix(rt: &impl Print, name: &[u8], bytes: &[u8]) -> io::Result<()>
     named(rt, name, memory::mix(bytes))
 }
 
+// A refusal, by its number.
+pub fn refused(rt: &impl Print, refusal: Refusal) -> io::Result<()> {
+    print!(rt; " refused {refusal}")
+}
+
 // What a writer answered, the bytes under this name, and the memory lent.
 pub fn written(rt: &impl Print, answer: Answer, name: &[u8], out: &[u8]) -> io::Result<()>
     ensures { (name.exit.now ≡ name.entry.now) × (out.exit.now ≡ out.entry.now) }
 {
     match answer {
-        Answer::Done(count) => {
+        Ok(count) => {
             let n = memory::within(count, out);
             named(rt, b"length", count as u64)?;
             word(rt, name)?;
             bytes(rt, &out[..n])?;
         }
-        Answer::Refused(fault) => named(rt, b"refused", memory::wide(fault))?,
+        Err(refusal) => refused(rt, refusal)?,
     }
     mix(rt, b"memory", out)
 }

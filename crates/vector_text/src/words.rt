@@ -25,19 +25,18 @@ fn start(line: &[u8], k: usize) -> usize
     ensures { (result ≤ length line.now) × (drop result line.now ≡ words_from k line.now) }
 {
     let mut at = 0;
-    let mut left = k;
-    while 0 < left {
+    for passed in 0..k {
         let end = find(line, at, b' ');
         if end == line.len() {
             return end;
         }
         at = end + 1;
-        left -= 1;
     }
     at
 }
 
-fn word(line: &[u8], k: usize) -> &[u8]
+// Word k.
+pub fn word(line: &[u8], k: usize) -> &[u8]
     ensures { result.now ≡ word_of k line.now }
 {
     let from = start(line, k);
@@ -68,8 +67,8 @@ pub fn call(line: &[u8]) -> &[u8]
 fn with_digit(value: u64, b: u8) -> u64
     ensures { result ≡ with_digit value b }
 {
-    if 48 <= b && b <= 57 {
-        value % 1_000_000_000 * 10 + memory::wide(b - 48)
+    if b.is_ascii_digit() {
+        value % 1_000_000_000 * 10 + u64::from(b - b'0')
     } else {
         value
     }
@@ -80,10 +79,8 @@ fn decimal(word: &[u8]) -> u64
     ensures { result ≡ parsed_decimal word.now }
 {
     let mut value: u64 = 0;
-    let mut i = 0;
-    while i < word.len() {
-        value = with_digit(value, word[i]);
-        i += 1;
+    for b in word {
+        value = with_digit(value, *b);
     }
     value
 }
@@ -101,7 +98,7 @@ pub fn size(line: &[u8], k: usize) -> usize
     number(line, k) as usize
 }
 
-// Word k as a number modulo 2^32.
+// Word k as a number modulo 2^32; below, 2^16 and 2^8: no method of the library cuts a number to the width of a type parameter.
 pub fn number32(line: &[u8], k: usize) -> u32
     ensures { result ≡ number_of k line.now % 2 ^ 32 }
 {
@@ -125,7 +122,7 @@ pub fn byte(line: &[u8], k: usize) -> u8
 fn first_of(word: &[u8]) -> u8
     ensures { result ≡ first_byte word.now }
 {
-    if 0 < word.len() { word[0] } else { 0 }
+    word.first().copied().unwrap_or(0)
 }
 
 // The first byte of a word.
@@ -138,12 +135,10 @@ pub fn first(line: &[u8], k: usize) -> u8
 fn hex_digit(b: u8) -> u8
     ensures { (result ≡ hex_of b) × (result ≤ 15) }
 {
-    if 48 <= b && b <= 57 {
-        b - 48
-    } else if 65 <= b && b <= 70 {
-        b - 55
-    } else {
-        0
+    match b {
+        b'0'..=b'9' => b - b'0',
+        b'A'..=b'F' => b - b'A' + 10,
+        _ => 0,
     }
 }
 
@@ -151,13 +146,11 @@ fn hex_digit(b: u8) -> u8
 fn unhex(word: &[u8], out: &mut [u8]) -> usize
     ensures { PutAtStart (take (length out.old) (unhexed word.now)) out.old out.new result }
 {
-    let most = runs::least(word.len() / 2, out.len());
-    let mut n = 0;
-    while n < most {
+    let most = out.len().min(word.len() / 2);
+    for n in 0..most {
         out[n] = hex_digit(word[2 * n]) * 16 + hex_digit(word[2 * n + 1]);
-        n += 1;
     }
-    n
+    most
 }
 
 // So many bytes of a content, as far as there is room.

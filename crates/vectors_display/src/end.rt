@@ -1,19 +1,24 @@
 // Lines of a display. One that asks for more memory than there is is answered by nothing.
-use display::{Display, Reply};
+use display::Display;
+use framing::Refusal;
 use std::io;
 use vector_text::memory::Content;
 use vector_text::{memory, print, words};
 
-fn show_reply(rt: &impl Print, reply: Reply, out: &[u8]) -> io::Result<()> {
+fn show_reply(
+    rt: &impl Print,
+    reply: Result<Option<usize>, Refusal>,
+    out: &[u8],
+) -> io::Result<()> {
     match reply {
-        Reply::Nothing => print::word(rt, b"nothing"),
-        Reply::Send(count) => {
+        Ok(None) => print::word(rt, b"nothing"),
+        Ok(Some(count)) => {
             let n = memory::within(count, out);
             print::named(rt, b"length", count as u64)?;
             print::word(rt, b"frame")?;
             print::bytes(rt, &out[..n])
         }
-        Reply::Refused(fault) => print::named(rt, b"refused", fault as u64),
+        Err(refusal) => print::refused(rt, refusal),
     }
 }
 
@@ -37,37 +42,26 @@ fn take(
 }
 
 fn run_take(rt: &impl Print, line: &[u8], end: Display, frame: &[u8]) -> io::Result<Display> {
-    let mut space = [0u8; 4096];
-    let mut store = [0u8; 4096];
-    let mut out = [0u8; 4096];
+    let mut space = [0u8; memory::SIZE];
+    let mut store = [0u8; memory::SIZE];
+    let mut out = [0u8; memory::SIZE];
     let n = words::bytes(line, 2, frame, &mut space);
-    let asked = words::size(line, 4);
-    let room = memory::within(asked, &store);
-    if room < asked {
+    let Some(store) = store.get_mut(..words::size(line, 4)) else {
         return Ok(end);
-    }
-    let asked_answer = words::size(line, 6);
-    let room_answer = memory::within(asked_answer, &out);
-    if room_answer < asked_answer {
+    };
+    let Some(out) = out.get_mut(..words::size(line, 6)) else {
         return Ok(end);
-    }
-    take(
-        rt,
-        end,
-        &space[..n],
-        &mut store[..room],
-        &mut out[..room_answer],
-    )
+    };
+    take(rt, end, &space[..n], store, out)
 }
 
 pub(crate) fn run(rt: &impl Print, line: &[u8], end: Display, frame: &[u8]) -> io::Result<Display> {
-    if words::is(line, 0, b"display") {
-        if words::is(line, 1, b"fresh") {
-            return Ok(display::fresh(words::byte(line, 2)));
-        }
-        if words::is(line, 1, b"take") {
-            return run_take(rt, line, end, frame);
-        }
+    if !words::is(line, 0, b"display") {
+        return Ok(end);
     }
-    Ok(end)
+    match words::word(line, 1) {
+        b"fresh" => Ok(display::fresh(words::byte(line, 2))),
+        b"take" => run_take(rt, line, end, frame),
+        _ => Ok(end),
+    }
 }

@@ -7,47 +7,43 @@ mod orders;
 
 use display::Display;
 use std::io;
-use vector_text::{input, memory, print, words};
+use vector_text::{input, memory, print};
 
-// What is kept from line to line besides the last frame: its length, and the display.
-#[derive(Clone, Copy)]
+// What is kept from line to line: the last frame and its length, and the display.
+#[derive(Drop)]
 struct Kept {
-    frame: usize,
+    frame: [u8; memory::SIZE],
+    length: usize,
     end: Display,
 }
 
 // One line, without its end.
-fn run_line(rt: &impl Print, line: &[u8], kept: Kept, frame: &mut [u8]) -> io::Result<Kept> {
+fn run_line(rt: &impl Print, line: &[u8], kept: &mut Kept) -> io::Result<()> {
     print::text(rt, line)?;
-    let written = orders::run_write(rt, line, frame, kept.frame)?;
-    let last = memory::within(written, frame);
-    orders::run(rt, line, &frame[..last])?;
-    let end = end::run(rt, line, kept.end, &frame[..last])?;
-    print::text(rt, b"\n")?;
-    Ok(Kept { frame: last, end })
+    let written = orders::run_write(rt, line, &mut kept.frame, kept.length)?;
+    kept.length = memory::within(written, &kept.frame);
+    let frame = &kept.frame[..kept.length];
+    orders::run(rt, line, frame)?;
+    kept.end = end::run(rt, line, kept.end, frame)?;
+    print::text(rt, b"\n")
 }
 
 // Before a line names another, the display has address 0.
-fn run_lines(rt: &impl Print, text: &[u8], frame: &mut [u8]) -> io::Result<()> {
+fn run_lines(rt: &impl Print, text: &[u8]) -> io::Result<()> {
     let mut kept = Kept {
-        frame: 0,
+        frame: [0; memory::SIZE],
+        length: 0,
         end: display::fresh(0),
     };
-    let mut at = 0;
-    while at < text.len() {
-        let end = words::find(text, at, b'\n');
-        kept = run_line(rt, &text[at..end], kept, frame)?;
-        if end == text.len() {
-            return Ok(());
-        }
-        at = end + 1;
+    for line in text.split_inclusive(|byte| *byte == b'\n') {
+        run_line(rt, line.strip_suffix(b"\n").unwrap_or(line), &mut kept)?;
     }
     Ok(())
 }
 
+// Text beyond this memory is not read: a Vec would read on.
 fn main(rt: HostRuntime) -> io::Result<()> {
     let mut text = [0u8; 65536];
-    let mut frame = [0u8; 4096];
     let length = input::read_full(&mut rt.stdin(), &mut text)?;
-    run_lines(&rt, &text[..length], &mut frame)
+    run_lines(&rt, &text[..length])
 }

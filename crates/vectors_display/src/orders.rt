@@ -1,20 +1,9 @@
 // Lines of orders that are written and read, and of a value's places. A line that asks for more memory than there is is answered by nothing.
-use display::{Order, Reading};
-use framing::Answer;
+use display::Order;
+use framing::{Answer, Refusal};
 use std::io;
 use vector_text::memory::Content;
 use vector_text::{memory, print, words};
-
-// Keeps a frame that was written; answers the length of the last one.
-fn keep(answer: Answer, out: &[u8], frame: &mut [u8], last: usize) -> usize {
-    match answer {
-        Answer::Done(count) => {
-            let n = memory::within(count, out);
-            memory::copy(&out[..n], frame)
-        }
-        Answer::Refused(_) => last,
-    }
-}
 
 fn write(line: &[u8], out: &mut [u8]) -> Answer {
     memory::fill(Content::Lent, out);
@@ -27,33 +16,6 @@ fn write(line: &[u8], out: &mut [u8]) -> Answer {
     )
 }
 
-fn written(
-    rt: &impl Print,
-    line: &[u8],
-    out: &mut [u8],
-    frame: &mut [u8],
-    last: usize,
-) -> io::Result<usize> {
-    let answer = write(line, out);
-    print::written(rt, answer, b"frame", out)?;
-    Ok(keep(answer, out, frame, last))
-}
-
-fn write_with(
-    rt: &impl Print,
-    line: &[u8],
-    asked: usize,
-    frame: &mut [u8],
-    last: usize,
-) -> io::Result<usize> {
-    let mut out = [0u8; 4096];
-    let room = memory::within(asked, &out);
-    if room < asked {
-        return Ok(last);
-    }
-    written(rt, line, &mut out[..room], frame, last)
-}
-
 // The length of the last frame, after a line that may write one.
 pub(crate) fn run_write(
     rt: &impl Print,
@@ -61,53 +23,44 @@ pub(crate) fn run_write(
     frame: &mut [u8],
     last: usize,
 ) -> io::Result<usize> {
-    if words::is(line, 0, b"display-write") {
-        return write_with(rt, line, words::size(line, 6), frame, last);
+    if !words::is(line, 0, b"display-write") {
+        return Ok(last);
     }
-    Ok(last)
+    let mut out = [0u8; memory::SIZE];
+    let Some(out) = out.get_mut(..words::size(line, 6)) else {
+        return Ok(last);
+    };
+    let answer = write(line, out);
+    print::written(rt, answer, b"frame", out)?;
+    Ok(memory::keep(answer, out, frame, last))
 }
 
-fn show_order(rt: &impl Print, order: Order) -> io::Result<()> {
-    print::numbers(rt, b"order", &[order.receiver, order.sender, order.number])?;
-    print::number(rt, b" ", order.value as u64)
-}
-
-fn show_reading(rt: &impl Print, reading: Reading) -> io::Result<()> {
+fn show_reading(rt: &impl Print, reading: Result<Order, Refusal>) -> io::Result<()> {
     match reading {
-        Reading::Accepted(order) => show_order(rt, order),
-        Reading::Refused(fault) => print::named(rt, b"refused", fault as u64),
+        Ok(order) => {
+            print::numbers(rt, b"order", &[order.receiver, order.sender, order.number])?;
+            print::number(rt, b" ", u64::from(order.value))
+        }
+        Err(refusal) => print::refused(rt, refusal),
     }
-}
-
-fn read(rt: &impl Print, bytes: &[u8], store: &mut [u8]) -> io::Result<()> {
-    memory::fill(Content::Lent, store);
-    show_reading(rt, display::read(bytes, store))?;
-    print::mix(rt, b"store", store)
 }
 
 fn run_read(rt: &impl Print, line: &[u8], frame: &[u8]) -> io::Result<()> {
-    let mut space = [0u8; 4096];
-    let mut store = [0u8; 4096];
+    let mut space = [0u8; memory::SIZE];
+    let mut store = [0u8; memory::SIZE];
     let n = words::bytes(line, 1, frame, &mut space);
-    let asked = words::size(line, 3);
-    let room = memory::within(asked, &store);
-    if asked <= room {
-        read(rt, &space[..n], &mut store[..room])?;
-    }
-    Ok(())
-}
-
-fn run_shown(rt: &impl Print, line: &[u8]) -> io::Result<()> {
-    let places = display::shown(words::number32(line, 1));
-    print::bytes(rt, &places)
+    let Some(store) = store.get_mut(..words::size(line, 3)) else {
+        return Ok(());
+    };
+    memory::fill(Content::Lent, store);
+    show_reading(rt, display::read(&space[..n], store))?;
+    print::mix(rt, b"store", store)
 }
 
 pub(crate) fn run(rt: &impl Print, line: &[u8], frame: &[u8]) -> io::Result<()> {
-    if words::is(line, 0, b"display-read") {
-        run_read(rt, line, frame)?;
+    match words::word(line, 0) {
+        b"display-read" => run_read(rt, line, frame),
+        b"display-shown" => print::bytes(rt, &display::shown(words::number32(line, 1))),
+        _ => Ok(()),
     }
-    if words::is(line, 0, b"display-shown") {
-        run_shown(rt, line)?;
-    }
-    Ok(())
 }

@@ -6,47 +6,42 @@ mod asking;
 mod chain;
 mod responding;
 
+use gate::{Exchange, Responder};
 use std::io;
 use vector_text::{input, print, words};
 
 // The two ends, kept from line to line.
-#[derive(Clone, Copy)]
+#[derive(Drop)]
 struct Ends {
-    asking: gate::Exchange,
-    responder: gate::Responder,
-}
-
-fn fresh() -> Ends {
-    Ends {
-        asking: gate::fresh(),
-        responder: gate::fresh_responder(),
-    }
+    asking: Exchange,
+    responder: Responder,
 }
 
 // One line, without its end.
-fn run_line(rt: &impl Print, line: &[u8], ends: Ends) -> io::Result<Ends> {
+fn run_line(rt: &impl Print, line: &[u8], ends: &mut Ends) -> io::Result<()> {
     print::text(rt, line)?;
-    let asking = asking::run(rt, line, ends.asking)?;
-    let responder = responding::run(rt, line, ends.responder)?;
-    chain::run(rt, line)?;
-    print::text(rt, b"\n")?;
-    Ok(Ends { asking, responder })
+    match words::word(line, 0) {
+        b"ask" => asking::run(rt, line, &mut ends.asking)?,
+        b"respond" => responding::run(rt, line, &mut ends.responder)?,
+        b"respond-refused" => responding::run_refused(rt, line, &mut ends.responder)?,
+        b"chain" => chain::run(rt, line)?,
+        _ => {}
+    }
+    print::text(rt, b"\n")
 }
 
 fn run_lines(rt: &impl Print, text: &[u8]) -> io::Result<()> {
-    let mut ends = fresh();
-    let mut at = 0;
-    while at < text.len() {
-        let end = words::find(text, at, b'\n');
-        ends = run_line(rt, &text[at..end], ends)?;
-        if end == text.len() {
-            return Ok(());
-        }
-        at = end + 1;
+    let mut ends = Ends {
+        asking: Exchange::fresh(),
+        responder: Responder::fresh(),
+    };
+    for line in text.split_inclusive(|byte| *byte == b'\n') {
+        run_line(rt, line.strip_suffix(b"\n").unwrap_or(line), &mut ends)?;
     }
     Ok(())
 }
 
+// Text beyond this memory is not read: a Vec would read on.
 fn main(rt: HostRuntime) -> io::Result<()> {
     let mut text = [0u8; 65536];
     let length = input::read_full(&mut rt.stdin(), &mut text)?;

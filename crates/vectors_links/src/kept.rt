@@ -1,19 +1,14 @@
-// What is kept from line to line, besides the last frame and the store.
+// What is kept from line to line.
+use vector_text::links::Link;
+use vector_text::memory;
 
-// The link, the length of the last frame, the length of the store, and the receiver's state (of another link than MDU its base alone).
-#[derive(Clone, Copy)]
+// The link, the last frame and its length, the store and its length, and the receiver's state (of another link than MDU its base alone).
+#[derive(Drop)]
 pub(crate) struct Kept {
-    pub(crate) link: u8,
-    pub(crate) frame: usize,
+    pub(crate) link: Link,
+    pub(crate) frame: [u8; memory::SIZE],
+    pub(crate) length: usize,
+    pub(crate) store: [u8; memory::SIZE],
     pub(crate) room: usize,
     pub(crate) state: mdu::State,
-}
-
-pub(crate) fn fresh() -> Kept {
-    Kept {
-        link: 0,
-        frame: 0,
-        room: 0,
-        state: mdu::fresh(),
-    }
 }

@@ -5,45 +5,41 @@
 mod kept;
 mod parts;
 mod receivers;
+mod shown;
 mod writers;
 
+use framing::Link;
 use kept::Kept;
+use mdu::Mdu;
 use std::io;
-use vector_text::{input, print, words};
+use vector_text::{input, links, memory, print};
 
 // One line, without its end.
-fn run_line(
-    rt: &impl Print,
-    line: &[u8],
-    kept: Kept,
-    frame: &mut [u8],
-    store: &mut [u8],
-) -> io::Result<Kept> {
+fn run_line(rt: &impl Print, line: &[u8], kept: &mut Kept) -> io::Result<()> {
     print::text(rt, line)?;
-    let written = writers::run(rt, line, kept, frame)?;
-    let received = receivers::run(rt, line, written, frame, store)?;
-    print::text(rt, b"\n")?;
-    Ok(received)
+    writers::run(rt, line, kept)?;
+    receivers::run(rt, line, kept)?;
+    print::text(rt, b"\n")
 }
 
-fn run_lines(rt: &impl Print, text: &[u8], frame: &mut [u8], store: &mut [u8]) -> io::Result<()> {
-    let mut kept = kept::fresh();
-    let mut at = 0;
-    while at < text.len() {
-        let end = words::find(text, at, b'\n');
-        kept = run_line(rt, &text[at..end], kept, frame, store)?;
-        if end == text.len() {
-            return Ok(());
-        }
-        at = end + 1;
+fn run_lines(rt: &impl Print, text: &[u8]) -> io::Result<()> {
+    let mut kept = Kept {
+        link: links::Link::Expansion,
+        frame: [0; memory::SIZE],
+        length: 0,
+        store: [0; memory::SIZE],
+        room: 0,
+        state: Mdu::fresh(),
+    };
+    for line in text.split_inclusive(|byte| *byte == b'\n') {
+        run_line(rt, line.strip_suffix(b"\n").unwrap_or(line), &mut kept)?;
     }
     Ok(())
 }
 
+// Text beyond this memory is not read: a Vec would read on.
 fn main(rt: HostRuntime) -> io::Result<()> {
     let mut text = [0u8; 65536];
-    let mut frame = [0u8; 4096];
-    let mut store = [0u8; 4096];
     let length = input::read_full(&mut rt.stdin(), &mut text)?;
-    run_lines(&rt, &text[..length], &mut frame, &mut store)
+    run_lines(&rt, &text[..length])
 }

@@ -4,22 +4,19 @@ ghost use Rattle.std.specs.Prelude.{◌<◌};
 use crate::kept::Kept;
 use framing::Answer;
 use std::io;
-use vector_text::links::{DLE, MDU, PCS};
+use vector_text::links::Link;
 use vector_text::memory::Content;
 use vector_text::{memory, print, words};
 
-// The number of the word that holds a writer's bytes, or an error byte. The room stands two words behind it.
-fn data_at(line: &[u8], link: u8) -> usize
+// The number of the word that holds a writer's bytes. The room stands two words behind it.
+fn data_at(link: Link) -> usize
     ensures { result < 9 }
 {
-    if words::is(line, 0, b"write-error") {
-        return 3;
-    }
     match link {
-        PCS => 8,
-        MDU => 2,
-        DLE => 3,
-        _ => 5,
+        Link::Pcs => 8,
+        Link::Mdu => 2,
+        Link::Dle => 3,
+        Link::Expansion => 5,
     }
 }
 
@@ -48,73 +45,56 @@ fn write_expansion(line: &[u8], data: &[u8], out: &mut [u8]) -> Answer {
     )
 }
 
-fn write_error(line: &[u8], out: &mut [u8]) -> Answer {
-    dle::write_error(
-        words::byte(line, 1),
-        words::byte(line, 2),
-        words::byte(line, 3),
-        out,
-    )
-}
-
-fn write(line: &[u8], link: u8, data: &[u8], out: &mut [u8]) -> Answer {
-    if words::is(line, 0, b"write-error") {
-        return write_error(line, out);
-    }
+fn write(line: &[u8], link: Link, data: &[u8], out: &mut [u8]) -> Answer {
     match link {
-        PCS => write_pcs(line, data, out),
-        MDU => mdu::write(words::byte(line, 1), data, out),
-        DLE => dle::write(words::byte(line, 1), words::byte(line, 2), data, out),
-        _ => write_expansion(line, data, out),
+        Link::Pcs => write_pcs(line, data, out),
+        Link::Mdu => mdu::write(words::byte(line, 1), data, out),
+        Link::Dle => dle::write(words::byte(line, 1), words::byte(line, 2), data, out),
+        Link::Expansion => write_expansion(line, data, out),
     }
 }
 
-// Keeps a frame that was written; answers the length of the last one.
-fn keep(answer: Answer, out: &[u8], frame: &mut [u8], last: usize) -> usize {
-    match answer {
-        Answer::Done(count) => {
-            let n = memory::within(count, out);
-            memory::copy(&out[..n], frame)
-        }
-        Answer::Refused(_) => last,
-    }
-}
-
-fn written(
+// Makes a call of a writer on the bytes of word k, with the room that the word two behind it states, and keeps the frame that it writes.
+fn run_write<W: FnOnce(&[u8], &mut [u8]) -> Answer>(
     rt: &impl Print,
     line: &[u8],
-    kept: Kept,
-    data: &[u8],
-    out: &mut [u8],
-    frame: &mut [u8],
-) -> io::Result<usize> {
-    memory::fill(Content::Lent, out);
-    let answer = write(line, kept.link, data, out);
-    print::written(rt, answer, b"frame", out)?;
-    Ok(keep(answer, out, frame, kept.frame))
-}
-
-fn run_write(rt: &impl Print, line: &[u8], kept: Kept, frame: &mut [u8]) -> io::Result<Kept> {
-    let mut space = [0u8; 4096];
-    let mut memory = [0u8; 4096];
-    let k = data_at(line, kept.link);
+    k: usize,
+    kept: &mut Kept,
+    write: W,
+) -> io::Result<()>
+    requires callable { W.IsAlwaysCallable write }
+    requires small { k < 9 }
+{
+    let mut space = [0u8; memory::SIZE];
+    let mut memory = [0u8; memory::SIZE];
     let n = words::bytes(line, k, b"", &mut space);
     let room = memory::within(words::size(line, k + 2), &memory);
-    let mut after = kept;
-    after.frame = written(rt, line, kept, &space[..n], &mut memory[..room], frame)?;
-    Ok(after)
+    let out = &mut memory[..room];
+    memory::fill(Content::Lent, out);
+    let answer = write(&space[..n], out);
+    print::written(rt, answer, b"frame", out)?;
+    kept.length = memory::keep(answer, out, &mut kept.frame, kept.length);
+    Ok(())
 }
 
-pub(crate) fn run(rt: &impl Print, line: &[u8], kept: Kept, frame: &mut [u8]) -> io::Result<Kept> {
-    if words::is(line, 0, b"write") {
-        return run_write(rt, line, kept, frame);
+pub(crate) fn run(rt: &impl Print, line: &[u8], kept: &mut Kept) -> io::Result<()> {
+    let link = kept.link;
+    match words::word(line, 0) {
+        b"write" => run_write(rt, line, data_at(link), kept, |data, out| {
+            write(line, link, data, out)
+        }),
+        b"write-error" => run_write(rt, line, 3, kept, |_, out| {
+            dle::write_error(
+                words::byte(line, 1),
+                words::byte(line, 2),
+                words::byte(line, 3),
+                out,
+            )
+        }),
+        b"section" => {
+            kept.link = Link::from(words::first(line, 1));
+            Ok(())
+        }
+        _ => Ok(()),
     }
-    if words::is(line, 0, b"write-error") {
-        return run_write(rt, line, kept, frame);
-    }
-    let mut after = kept;
-    if words::is(line, 0, b"section") {
-        after.link = words::first(line, 1);
-    }
-    Ok(after)
 }

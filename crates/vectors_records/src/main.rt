@@ -2,56 +2,66 @@
 // Both standard input and what is to be printed come from the second implementation, whose src/vectors.rs says how lines are written.
 #![tactic(auto)]
 
+mod fares;
 mod makers;
 mod records;
-mod signs;
 mod views;
 
 use std::io;
 use vector_text::{input, memory, print, words};
 
-// A call with the bytes that the last `keep` line gave.
+// The bytes of the last `keep` line.
+#[derive(Drop)]
+struct Kept {
+    memory: [u8; memory::SIZE],
+    count: usize,
+}
+
+impl Kept {
+    fn new() -> Kept {
+        Kept {
+            memory: [0; memory::SIZE],
+            count: 0,
+        }
+    }
+
+    fn keep(&mut self, line: &[u8]) {
+        self.count = words::bytes(line, 1, b"", &mut self.memory);
+    }
+
+    fn bytes(&self) -> &[u8] {
+        &self.memory[..memory::within(self.count, &self.memory)]
+    }
+}
+
+// A call with the bytes that are kept.
 fn run_call(rt: &impl Print, call: &[u8], kept: &[u8]) -> io::Result<()> {
     records::run(rt, call, kept)?;
     makers::run(rt, call)?;
     views::run(rt, call, kept)
 }
 
-// Keeps the bytes of a `keep` line; answers how many are kept.
-fn keep(line: &[u8], kept: &mut [u8], last: usize) -> usize {
-    if words::is(line, 0, b"keep") {
-        return words::bytes(line, 1, b"", kept);
-    }
-    last
-}
-
-// One line, without its end; answers how many bytes are kept.
-fn run_line(rt: &impl Print, line: &[u8], kept: &mut [u8], last: usize) -> io::Result<usize> {
+// One line, without its end.
+fn run_line(rt: &impl Print, line: &[u8], kept: &mut Kept) -> io::Result<()> {
     print::text(rt, line)?;
-    let count = keep(line, kept, last);
-    let n = memory::within(count, kept);
-    run_call(rt, words::call(line), &kept[..n])?;
-    print::text(rt, b"\n")?;
-    Ok(n)
+    if words::is(line, 0, b"keep") {
+        kept.keep(line);
+    }
+    run_call(rt, words::call(line), kept.bytes())?;
+    print::text(rt, b"\n")
 }
 
-fn run_lines(rt: &impl Print, text: &[u8], kept: &mut [u8]) -> io::Result<()> {
-    let mut last = 0;
-    let mut at = 0;
-    while at < text.len() {
-        let end = words::find(text, at, b'\n');
-        last = run_line(rt, &text[at..end], kept, last)?;
-        if end == text.len() {
-            return Ok(());
-        }
-        at = end + 1;
+fn run_lines(rt: &impl Print, text: &[u8]) -> io::Result<()> {
+    let mut kept = Kept::new();
+    for line in text.split_inclusive(|byte| *byte == b'\n') {
+        run_line(rt, line.strip_suffix(b"\n").unwrap_or(line), &mut kept)?;
     }
     Ok(())
 }
 
+// Text beyond this memory is not read: a Vec would read on.
 fn main(rt: HostRuntime) -> io::Result<()> {
     let mut text = [0u8; 65536];
-    let mut kept = [0u8; 4096];
     let length = input::read_full(&mut rt.stdin(), &mut text)?;
-    run_lines(&rt, &text[..length], &mut kept)
+    run_lines(&rt, &text[..length])
 }

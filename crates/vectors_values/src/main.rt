@@ -18,21 +18,13 @@ fn run_line(rt: &impl Print, line: &[u8]) -> io::Result<()> {
     print::text(rt, b"\n")
 }
 
-fn run_lines(rt: &impl Print, text: &[u8]) -> io::Result<()> {
-    let mut at = 0;
-    while at < text.len() {
-        let end = words::find(text, at, b'\n');
-        run_line(rt, &text[at..end])?;
-        if end == text.len() {
-            return Ok(());
-        }
-        at = end + 1;
-    }
-    Ok(())
-}
-
+// Text beyond this memory is not read: a Vec would read on.
 fn main(rt: HostRuntime) -> io::Result<()> {
     let mut text = [0u8; 65536];
     let length = input::read_full(&mut rt.stdin(), &mut text)?;
-    run_lines(&rt, &text[..length])
+    for line in text[..length].split_inclusive(|byte| *byte == b'\n') {
+        let line = line.strip_suffix(b"\n").unwrap_or(line);
+        run_line(&rt, line)?;
+    }
+    Ok(())
 }

@@ -1,11 +1,7 @@
-use Prim.Native.Nat.{◌*◌, ◌/◌}
-use mathlib.Core.Path.{◌∙◌}
-use lib.ListN.{length}
-use Rattle.checksum.proofs.Run.{run_rest}
+use Rattle.std.proofs.Common.{◌∙◌}
+use Rattle.checksum.proofs.Run.{run_in_words}
 use Rattle.checksum.proofs.after.Goals as goal
 
 pub returns : goal.returns
-returns c p rule =
-    let u = c.args.bytes.now in
-    let words = c.after_words-c in
-    run_rest p _ u (length u / 4 * 4) (c.after_bytes.ensures p rule) ∙ (words.ensures p rule).1
+returns c =
+    c.after_bytes.ensures ∙ rw (c.after_words.ensures, c.as_chunks.ensures.front, c.as_chunks.ensures.back) (run_in_words 0xEDB88320 c.args.start c.args.bytes.now (λ i. (c.type_inv.bytes i).fits))

@@ -1,23 +1,15 @@
-use Rattle.checksum.proofs.Braids.{braid_joined}
+use Rattle.std.proofs.Common.{◌≡◌, map, rules, tests, length, ◌∙◌, sym, arith}
+use lib.ListN.{length-map}
+use Rattle.std.proofs.lemmas.Iterator.{YieldsList-from_slice, YieldsList-from_zip}
+use Rattle.std.proofs.lemmas.Iterator.Consumers.{fold_from_yields_List}
+use Rattle.runs.specs.Number.{little_endian}
+use Rattle.checksum.proofs.Braids.{join_fold, words_with}
 use Rattle.checksum.proofs.join.Goals as goal
 
--- the promises of `word` give the six words of the block, those of `shift32` the register after each, for `braid_joined`
 pub returns : goal.returns
-returns c p x rule stands =
-    braid_joined p x _ _ _ _ _ _ _ _ _ _ _ _ _ (record {
-      bytes = λ i. (c.type_inv.block i).fits;
-      within = c.requires;
-      at₀ = c.word.ensures;
-      at₁ = c.word-2.ensures;
-      at₂ = c.word-3.ensures;
-      at₃ = c.word-4.ensures;
-      at₄ = c.word-5.ensures;
-      at₅ = c.word-6.ensures;
-    })
-    (c.shift32-c1.ensures p rule)
-    (c.shift32-c2.ensures p rule)
-    (c.shift32-c3.ensures p rule)
-    (c.shift32-c4.ensures p rule)
-    (c.shift32-c5.ensures p rule)
-    (c.shift32.ensures p rule)
-    stands
+returns c x stands =
+    let braid = c.args.braid in
+    let block = c.args.block.now in
+    let same : length braid ≡ length block = omega (arith, c.well_formed) in
+    fold_from_yields_List _ _ _ _ c.fold.ensures.ran (YieldsList-from_zip (YieldsList-from_slice braid cc) (YieldsList-from_slice block cc)) (λ t x s q k. search (rules, tests))
+    ∙ join_fold 0xEDB88320 0 braid block same ∙ words_with 0xEDB88320 x braid (map little_endian block) (same ∙ sym (length-map block little_endian)) stands

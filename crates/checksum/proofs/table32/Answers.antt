@@ -5,4 +5,4 @@ use Rattle.checksum.proofs.table32.Goals as goal
 
 pub returns : goal.returns
 unfolding shifts bases row laid
-returns c = laid_out 0xEDB88320 4 8 32 refl
+returns c = record { rows = refl; right = laid_out 0xEDB88320 4 8 32 refl }

@@ -1,28 +1,22 @@
-use native.Mathlib.Omega.{arith}
-use lib.ListN.{length-set}
-use Rattle.decimal.proofs.Decimal.{decimal_some, digits_none, digits_left, digits_next, digits_all}
+use Rattle.std.proofs.Common.{◌≡◌, ◌+◌, ◌-◌, length, ap, sym, ◌∙◌, arith}
+use lib.Seq.{sets}
+use Rattle.decimal.specs.Decimal.{decimal}
+use Rattle.decimal.proofs.Decimal.{digits_all, digits_none, digits_next}
 use Rattle.decimal.proofs.put_digits.Goals as goal
 
-pub overflow_sub-place : goal.overflow_sub-place
-overflow_sub-place c = omega (arith, decimal_some c.args.n)
+pub loop-place-init : goal.loop-place-init
+loop-place-init c =
+    let a = c.args in
+    let e : a.at + a.digits - a.at ≡ length (decimal a.n) = omega (arith, c.requires.0) in
+    rw e (ap (sets a.out.now a.at) (digits_all a.n))
 
-pub loop-rest-init : goal.loop-rest-init
-loop-rest-init c = rw c.requires.0 (digits_none c.args.out.now c.args.at c.args.n (omega arith) (omega arith))
-
-pub bounds-out-place : goal.bounds-out-place
-bounds-out-place c = c.loop-rest.invariant.fits
-
-pub overflow_sub-place-in-loop-rest : goal.overflow_sub-place-in-loop-rest
-overflow_sub-place-in-loop-rest c = omega (arith, digits_left c.loop-rest.invariant c.loop-rest-test.true)
-
-pub loop-rest-preserved : goal.loop-rest-preserved
-loop-rest-preserved c = digits_next c.loop-rest.invariant c.loop-rest-test.true
-
-pub bounds-out-place-2 : goal.bounds-out-place-2
-bounds-out-place-2 c = c.loop-rest.invariant.fits
-
-pub shape_of-out : goal.shape_of-out
-shape_of-out c = simp length-set c.loop-rest.invariant.kept
+pub loop-place-preserved : goal.loop-place-preserved
+loop-place-preserved c =
+    let l = c.loop-place in
+    digits_next l.out c.args.at l.place l.rest (omega arith) ∙ l.invariant
 
 pub returns : goal.returns
-returns c = digits_all c.loop-rest.invariant c.loop-rest-test.false
+returns c =
+    let a = c.args in
+    let l = c.loop-place in
+    sym (digits_none l.out a.at (l.place - a.at) l.rest (omega arith)) ∙ l.invariant

@@ -1,29 +1,9 @@
-use native.Mathlib.Omega.{arith}
-use mathlib.Core.Path.{sym, ◌∙◌}
-use mathlib.Core.List.{◌++◌}
-use lib.ListN.{length}
-use borrow.Author.Tests.{leb-true, leb-false}
-use Rattle.framing.proofs.Stored.{stored_so, stored_refused}
+use Rattle.std.proofs.Common.{List, ℕ, ◌++◌, ap, ◌∙◌, append-nil}
+use Rattle.framing.specs.Answer.{stored_at}
 use Rattle.dle.specs.Frame.{enclose}
 use Rattle.dle.proofs.send.Goals as goal
 
-pub put_frame-n-requires : goal.put_frame-n-requires
-put_frame-n-requires c =
-    let r = c.before in
-    let a = r.args in
-    leb-true (length (enclose (a.header.now ++ a.«data».now))) (length a.out.now) (sym r.has_room.ensures ∙ c.if-has_room.true)
-
-pub returns-then-has_room : goal.returns-then-has_room
-returns-then-has_room c =
-    let r = c.before in
-    let a = r.args in
-    let run = enclose (a.header.now ++ a.«data».now) in
-    let p = c.put_frame-n in
-    let fit = leb-true (length run) (length a.out.now) (sym r.has_room.ensures ∙ c.if-has_room.true) in
-    stored_so run a.out.now 0 _ _ p.ensures.long (omega (arith, fit, p.ensures.long)) p.ensures.put
-
-pub returns-else-has_room : goal.returns-else-has_room
-returns-else-has_room c =
+pub returns : goal.returns
+returns c =
     let a = c.args in
-    let run = enclose (a.header.now ++ a.«data».now) in
-    sym (stored_refused run a.out.now 0 (omega (arith, leb-false (length run) (length a.out.now) (sym c.has_room.ensures ∙ c.if-has_room.false))))
+    c.enclose_into.ensures ∙ ap (λ (d : List ℕ). stored_at (enclose (a.header.now ++ d)) a.out.now 0) (append-nil a.«data».now)

@@ -1,23 +1,16 @@
-use borrow.Author.Tests.{le-leb, lt-leb}
-use lib.ListN.{length}
-use mathlib.Core.Path.{sym, ◌∙◌}
+use Rattle.std.proofs.Common.{ℕ, ◌≤◌, ◌∷◌, length, sym, ap, ◌∙◌, arith, le-leb}
+use Rattle.framing.specs.Answer.{stored_at}
 use Rattle.framing.proofs.Stored.{writes_stored}
-use Rattle.dle.specs.Frame.{content, ok, frame}
+use Rattle.dle.specs.Frame.{content, ok, enclose, frame}
 use Rattle.dle.proofs.write.Goals as goal
 
-pub returns-then-n-lt1 : goal.returns-then-n-lt1
-returns-then-n-lt1 c = rw (lt-leb 1 (length c.args.«data».now) c.if-n-lt1.true)
-
-pub returns-then-n-le255 : goal.returns-then-n-le255
-returns-then-n-le255 c =
-    let t = c.before in
-    let a = t.args in
+pub returns-in-Ok : goal.returns-in-Ok
+returns-in-Ok c =
+    let a = c.args in
     let n = length a.«data».now in
+    let t = c.in-Ok.ensures in
+    let least : 1 ≤ n = omega (arith, t.1, c.if-count-gt0.true) in
+    let most : n ≤ 255 = omega (arith, t.0) in
     c.send.ensures
-    ∙ sym (writes_stored ok frame (content a.sequence a.node a.«data».now) a.out.now
-    (rw (le-leb 1 n t.if-n-lt1.false, le-leb n 255 t.if-n-le255.true)))
-
-pub returns-else-n-le255 : goal.returns-else-n-le255
-returns-else-n-le255 c =
-    let n = length c.args.«data».now in
-    rw (le-leb 1 n c.if-n-lt1.false, lt-leb n 255 c.if-n-le255.false)
+    ∙ ap (λ (k : ℕ). stored_at (enclose (a.sequence ∷ a.node ∷ k ∷ a.«data».now)) a.out.now 0) t.1
+    ∙ sym (writes_stored ok frame (content a.sequence a.node a.«data».now) a.out.now (rw (le-leb 1 n least, le-leb n 255 most)))

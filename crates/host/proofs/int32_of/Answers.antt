@@ -1,20 +1,19 @@
-use Prim.Native.Nat.{◌^◌, ◌<◌}
-use native.Mathlib.Omega.{arith}
+use Rattle.std.proofs.Common.{◌^◌, ◌<◌, arith}
 use mir.Syntax.{w32}
 use mir.ValLaws.{to_z_pos}
 use Rattle.host.proofs.Signed.{minus_fits, minus_value}
 use Rattle.host.proofs.int32_of.Goals as goal
 
 pub overflow_cast-result : goal.overflow_cast-result
-overflow_cast-result c = record { sfits = rw c.in-Done.is at c.requires }
+overflow_cast-result c = record { sfits = rw c.in-Ok.is at c.requires }
 
-pub returns-in-Done : goal.returns-in-Done
-returns-in-Done c =
-    let short : c.in-Done.n < 2 ^ 31 = rw c.in-Done.is at c.requires in
-    rw c.in-Done.is (to_z_pos w32 _ short)
+pub returns-in-Ok : goal.returns-in-Ok
+returns-in-Ok c =
+    let short : c.in-Ok.n < 2 ^ 31 = rw c.in-Ok.is at c.requires in
+    rw c.in-Ok.is (to_z_pos w32 _ short)
 
-pub returns-in-Refused : goal.returns-in-Refused
-returns-in-Refused c = rw c.in-Refused.is (minus_value c.in-Refused.fault (omega arith))
+pub returns-in-Err : goal.returns-in-Err
+returns-in-Err c = rw (c.in-Err.is, ← c.from.ensures) (minus_value c.from.result (omega arith))
 
 pub overflow_sub-result : goal.overflow_sub-result
-overflow_sub-result c = minus_fits c.in-Refused.fault (omega arith)
+overflow_sub-result c = minus_fits c.from.result (omega arith)

@@ -2,14 +2,13 @@ use Rattle.lister.proofs.Wire.{Wire}
 use Rattle.lister.specs.Receivers.{called_by}
 use lib.ListN.{length}
 use mathlib.Core.Path.{◌≡◌}
-use Prim.Native.Nat.{◌-◌}
 use Rattle.lister.proofs.read_wire.Given as goal
 
--- the store keeps its length; the calls so far have listed the first done bytes of the piece, as at bytes of text
+-- the store keeps its length; the calls so far have listed the piece up to its rest, as so many written bytes of text
 abbrev pub invariant-loop-text : goal.invariant-loop-text
 invariant-loop-text l =
     (length l.store ≡ length l.initial.store)
-    × Wire called_by (l.initial.current, l.initial.store) l.piece l.initial.text (l.current, l.store) l.done l.at l.text
+    × Wire called_by (l.initial.receiver, l.initial.store) l.piece l.initial.text (l.receiver, l.store) l.rest l.written l.text
 
 abbrev pub decreases-loop-text : goal.decreases-loop-text
-decreases-loop-text l = length l.piece - l.done
+decreases-loop-text l = length l.rest

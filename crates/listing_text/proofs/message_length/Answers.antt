@@ -1,13 +1,16 @@
-use native.Mathlib.Omega.{arith}
+use Rattle.std.proofs.Common.{◌≡◌, length, sym, ◌∙◌, arith}
+use borrow.Author.Tests.{eqb-true, eqb-false}
 use Rattle.listing_text.proofs.Lines.{length_none, length_some, length_message}
 use Rattle.listing_text.proofs.message_length.Goals as goal
 
-pub returns-then-data-gt0 : goal.returns-then-data-gt0
-returns-then-data-gt0 c =
-    let a = c.args in
-    omega (arith, length_message a.field a.«data».now, length_some a.«data».now (λ e. omega (arith, c.if-data-gt0.true)))
+pub returns-then-is_empty : goal.returns-then-is_empty
+returns-then-is_empty c =
+    let d = c.args.«data».now in
+    let none : length d ≡ 0 = eqb-true _ 0 (sym c.is_empty.ensures ∙ c.if-is_empty.true) in
+    omega (arith, length_message c.args.field d, length_none d none, rw c.from.ensures at c.digit_count.ensures)
 
 pub returns : goal.returns
 returns c =
-    let a = c.args in
-    omega (arith, length_message a.field a.«data».now, length_none a.«data».now (omega (arith, c.if-data-gt0.false)))
+    let d = c.args.«data».now in
+    let some : length d ≡ 0 → ⊥ = eqb-false _ 0 (sym c.is_empty.ensures ∙ c.if-is_empty.false) in
+    omega (arith, length_message c.args.field d, length_some d some, rw c.from.ensures at c.digit_count.ensures)

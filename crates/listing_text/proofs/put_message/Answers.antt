@@ -9,22 +9,23 @@ pub put_bytes-field_at-requires : goal.put_bytes-field_at-requires
 put_bytes-field_at-requires c = omega (arith, length_message c.args.field c.args.«data».now)
 
 pub put_decimal-space_at-requires : goal.put_decimal-space_at-requires
-put_decimal-space_at-requires c = omega (arith, length_message c.args.field c.args.«data».now)
+put_decimal-space_at-requires c =
+    rw c.from.ensures (omega (arith, length_message c.args.field c.args.«data».now))
 
 pub put_byte-length_at-requires : goal.put_byte-length_at-requires
-put_byte-length_at-requires c = omega (arith, length_message c.args.field c.args.«data».now)
+put_byte-length_at-requires c = omega (arith, rw c.from.ensures at c.put_decimal-space_at.ensures, length_message c.args.field c.args.«data».now)
 
 pub put_decimal-data_at-requires : goal.put_decimal-data_at-requires
 put_decimal-data_at-requires c =
-    omega (arith, length_message c.args.field c.args.«data».now)
+    omega (arith, rw c.from.ensures at c.put_decimal-space_at.ensures, length_message c.args.field c.args.«data».now)
 
 pub put_shown-end-requires : goal.put_shown-end-requires
 put_shown-end-requires c =
-    omega (arith, length_message c.args.field c.args.«data».now)
+    omega (arith, rw c.from.ensures at c.put_decimal-space_at.ensures, length_message c.args.field c.args.«data».now)
 
 pub put_byte-requires : goal.put_byte-requires
 put_byte-requires c =
-    omega (arith, length_message c.args.field c.args.«data».now)
+    omega (arith, rw c.from.ensures at c.put_decimal-space_at.ensures, length_message c.args.field c.args.«data».now)
 
 pub returns : goal.returns
 unfolding line text ascii
@@ -32,7 +33,7 @@ returns c =
     puts_then
     (puts_then
     (puts_then
-    (puts_then (puts_then c.put_bytes-field_at.ensures c.put_decimal-space_at.ensures) c.put_byte-length_at.ensures)
+    (puts_then (puts_then c.put_bytes-field_at.ensures (rw c.from.ensures at c.put_decimal-space_at.ensures)) c.put_byte-length_at.ensures)
     c.put_decimal-data_at.ensures)
     c.put_shown-end.ensures)
     c.put_byte.ensures

@@ -3,4 +3,4 @@ use Rattle.listing_text.proofs.refused.Goals as goal
 
 pub returns : goal.returns
 unfolding line text ascii
-returns c = c.numbered.ensures
+returns c = rw c.from.ensures at c.numbered.ensures

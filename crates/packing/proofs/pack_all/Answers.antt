@@ -1,4 +1,6 @@
-use Rattle.std.proofs.Common.{◌≡◌, ℕ, ◌+◌, ◌-◌, ◌<◌, ◌≤◌, min, List, [], ◌++◌, length, take, drop, sym, refl, ap, ◌∙◌, append-nil, arith, length-drop, drop_of_length-le, length-take, drop-drop}
+use Rattle.std.proofs.Common.{eqb, true, ◌≡◌, ℕ, ◌+◌, ◌-◌, ◌*◌, ◌<◌, ◌≤◌, min, List, [], ◌++◌, length, take, drop, sym, refl, ap, ◌∙◌, append-nil, arith, length-drop, drop_of_length-le, length-take, drop-drop}
+use borrow.Author.Tests.{eqb-true, eqb-false}
+use mathlib.Core.List.{sum}
 use lib.Seq.{sets}
 use Rattle.runs.specs.Total.{total_from}
 use Rattle.runs.proofs.Carried.{total_append}
@@ -65,10 +67,6 @@ module _ (d : List ℕ) (i : ℕ) {out₀ out : List ℕ} {at n : ℕ} (r : Run 
       ∙ sym (total_append start Front (packed (drop i d)))
       ∙ ap (total_from start) both
 
-  -- where nothing is left it is the total of the whole itself
-  finished : (start total : ℕ) → total ≡ total_from start Front → packed (drop i d) ≡ [] → total ≡ total_from start (packed d)
-  finished start total h e = h ∙ ap (total_from start) (sym (append-nil Front) ∙ ap (λ (l : List ℕ). Front ++ l) (sym e) ∙ both)
-
 -- past the data there is nothing to pack
 none : (d : List ℕ) (i : ℕ) → length d ≤ i → packed (drop i d) ≡ []
 none d i h = ap packed (drop_of_length-le d h) ∙ packed_nil
@@ -80,61 +78,41 @@ one d i h k =
     let g = group d i (length d) in
     group-next d i (length d) h k ∙ ap (λ (l : List ℕ). packed_group g ++ l) (none d (length d) (omega arith)) ∙ append-nil (packed_group g)
 
+-- nothing packs to nothing
+empty : (d : List ℕ) → eqb (length d) 0 ≡ true → packed d ≡ []
+empty d h = none d 0 (omega (arith, eqb-true (length d) 0 h))
+
+pub returns-then-is_empty : goal.returns-then-is_empty
+unfolding sum
+returns-then-is_empty c =
+    let e = empty c.args.«data».now (sym c.is_empty.ensures ∙ c.if-is_empty.true) in
+    let zero : sum ◌+◌ 0 [] ≡ 0 = refl in
+    record { total = rw e (omega (arith, zero, c.ranges.start.fits)); stored = rw e }
+
 pub loop-i-init : goal.loop-i-init
-loop-i-init c = (omega arith, run-start (rw length-packed c.requires) refl)
-
-pub overflow_add-at : goal.overflow_add-at
-overflow_add-at c = omega (arith, within c.args.«data».now c.loop-i.i c.loop-i.invariant.1)
-
-pub pack_group-requires : goal.pack_group-requires
-pack_group-requires c = fits c.args.«data».now c.loop-i.i c.loop-i.invariant.1 (c.loop-i.i + 7) (omega arith) (omega arith)
-
-pub overflow_add-n : goal.overflow_add-n
-overflow_add-n c = omega (arith, counts c.args.«data».now c.loop-i.i c.loop-i.invariant.1)
+loop-i-init c = run-start (rw length-packed c.requires) refl
 
 pub loop-i-preserved : goal.loop-i-preserved
 loop-i-preserved c =
     let d : List ℕ = c.args.«data».now in
-    (omega arith, stored d c.loop-i.i c.loop-i.invariant.1 (c.loop-i.i + 7) (omega arith) (omega arith) _ _ (omega arith) c.pack_group.ensures.stored)
+    let i : ℕ = c.loop-i.i in
+    let more : 7 * i + 7 < length d = omega (arith, c.group_count-groups.ensures) in
+    let next : 7 * i + 7 ≡ 7 * (i + 1) = omega arith in
+    rw next at (stored d (7 * i) c.loop-i.invariant (7 * i + 7) (omega arith) (omega arith) (8 * (i + 1)) _ (omega arith) c.pack_group.ensures.stored)
 
-pub overflow_add-front : goal.overflow_add-front
-overflow_add-front c = omega (arith, within c.args.«data».now c.loop-i.i c.loop-i.invariant.1)
-
-pub slice_bounds-total-end : goal.slice_bounds-total-end
-slice_bounds-total-end c = omega (arith, within c.args.«data».now c.loop-i.i c.loop-i.invariant.1)
-
-pub pack_group-requires-then-i-data : goal.pack_group-requires-then-i-data
-pack_group-requires-then-i-data c =
+pub returns : goal.returns
+returns c =
     let d : List ℕ = c.args.«data».now in
-    fits d c.loop-i.i c.loop-i.invariant.1 (length d) (omega arith) (omega arith)
-
-pub shape_of-out-then-i-data : goal.shape_of-out-then-i-data
-shape_of-out-then-i-data c =
-    let d : List ℕ = c.args.«data».now in
-    (stored d c.loop-i.i c.loop-i.invariant.1 (length d) (omega arith) (omega arith) _ _ refl c.pack_group-then-i-data.ensures.stored).long
-
-pub returns-then-i-data : goal.returns-then-i-data
-returns-then-i-data c =
-    let d : List ℕ = c.args.«data».now in
-    let r = c.loop-i.invariant.1 in
-    let e = one d c.loop-i.i (omega arith) (omega arith) in record {
+    let groups : ℕ = c.group_count-groups.result - 1 in
+    let some : length d ≡ 0 → ⊥ = eqb-false _ 0 (sym c.is_empty.ensures ∙ c.if-is_empty.false) in
+    let all : c.loop-i.i ≡ groups = omega arith in
+    let more : 7 * groups < length d = omega (arith, c.group_count-groups.ensures) in
+    let few : length d - 7 * groups ≡ min 7 (length d - 7 * groups) = omega (arith, c.group_count-groups.ensures) in
+    let r = rw all at c.loop-i.invariant in
+    let e = one d (7 * groups) more few in record {
       total =
-          c.pack_group-then-i-data.ensures.total
+          c.pack_group-2.ensures.total
           ∙ ap (total_from c.total-total.result) (sym e)
-          ∙ carried d c.loop-i.i r c.args.start c.total-total.result c.total-total.ensures;
-      stored =
-          run_end (stored d c.loop-i.i r (length d) (omega arith) (omega arith) _ _ refl c.pack_group-then-i-data.ensures.stored)
-          (none d (length d) (omega arith));
-    }
-
-pub shape_of-out-else-i-data : goal.shape_of-out-else-i-data
-shape_of-out-else-i-data c = c.loop-i.invariant.1.long
-
-pub returns-else-i-data : goal.returns-else-i-data
-returns-else-i-data c =
-    let d : List ℕ = c.args.«data».now in
-    let r = c.loop-i.invariant.1 in
-    let e : packed (drop c.loop-i.i d) ≡ [] = none d c.loop-i.i c.if-i-data.false in record {
-      total = finished d c.loop-i.i r c.args.start c.total-total.result c.total-total.ensures e;
-      stored = run_end r e;
+          ∙ carried d (7 * groups) r c.args.start c.total-total.result c.total-total.ensures;
+      stored = run_end (stored d (7 * groups) r (length d) more few _ _ refl c.pack_group-2.ensures.stored) (none d (length d) (omega arith));
     }

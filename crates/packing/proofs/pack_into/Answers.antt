@@ -6,17 +6,17 @@ use Rattle.framing.proofs.Stored.{stored_done, stored_refused}
 use Rattle.packing.proofs.pack_into.Goals as goal
 
 pub pack_all-requires : goal.pack_all-requires
-pack_all-requires c = leb-true _ _ (sym c.has_room.ensures ∙ c.if-has_room.true)
+pack_all-requires c = leb-true _ _ (sym c.has_room.ensures ∙ c.if-not-has_room.false)
 
-pub returns-then-has_room : goal.returns-then-has_room
-returns-then-has_room c =
+pub returns : goal.returns
+returns c =
     let d : List ℕ = c.args.«data».now in
-    let room = leb-true (c.args.at + packed_length (length d)) (length c.args.out.now) (sym c.has_room.ensures ∙ c.if-has_room.true) in
+    let room = leb-true (c.args.at + packed_length (length d)) (length c.args.out.now) (sym c.has_room.ensures ∙ c.if-not-has_room.false) in
     ap₂ (λ (m : ℕ) (l : List ℕ). (done m, l)) (c.packed_length.ensures ∙ sym (length-packed d)) c.pack_all.ensures.stored
     ∙ sym (stored_done (packed d) c.args.out.now c.args.at (omega (arith, room, length-packed d)))
 
-pub returns-else-has_room : goal.returns-else-has_room
-returns-else-has_room c =
+pub returns-then-not-has_room : goal.returns-then-not-has_room
+returns-then-not-has_room c =
     let d : List ℕ = c.args.«data».now in
-    let short = leb-false (c.args.at + packed_length (length d)) (length c.args.out.now) (sym c.has_room.ensures ∙ c.if-has_room.false) in
+    let short = leb-false (c.args.at + packed_length (length d)) (length c.args.out.now) (sym c.has_room.ensures ∙ c.if-not-has_room.true) in
     sym (stored_refused (packed d) c.args.out.now c.args.at (omega (arith, short, length-packed d)))

@@ -30,7 +30,7 @@ loop-j-init c =
     let tops : c.value_of-tops.result ≡ get_or (drop from d) k 0 % 128 =
     c.value_of-tops.ensures ∙ ap (λ (n : ℕ). n % 128) (sym (get_or-drop from d k 0)) in
     let long : length (unpacked_group k (drop from d)) ≡ k = length-unpacked_group k (drop from d) room in
-    (omega arith, run-start (omega (arith)) (ap (λ (v : ℕ). joined (v / 2 ^ last_place k) (take k (drop from d))) tops))
+    run-start (omega (arith)) (ap (λ (v : ℕ). joined (v / 2 ^ last_place k) (take k (drop from d))) tops)
 
 pub loop-j-preserved : goal.loop-j-preserved
 loop-j-preserved c =
@@ -39,16 +39,13 @@ loop-j-preserved c =
     let j : ℕ = c.loop-j.j in
     let here : ℕ = c.args.from + j in
     let byte : c.data_byte.result ≡ get_or c.loop-j.store here 0 % 128 + 128 * (v / 2 ^ (6 - j) % 2) = c.data_byte.ensures in
-    let low : get_or c.loop-j.store here 0 ≡ get_or d here 0 = run_get 0 here (omega arith) c.loop-j.invariant.1 in
-    let more = next d c.args.from c.args.k j v c.requires.0 c.requires.2 c.loop-j-test.true in
-    (omega arith, run-one c.loop-j.invariant.1 more (byte ∙ ap (λ (b : ℕ). b % 128 + 128 * (v / 2 ^ (6 - j) % 2)) low))
-
-pub shape_of-store : goal.shape_of-store
-shape_of-store c = c.loop-j.invariant.1.long
+    let low : get_or c.loop-j.store here 0 ≡ get_or d here 0 = run_get 0 here (omega arith) c.loop-j.invariant in
+    let more = next d c.args.from c.args.k j v c.requires.0 c.requires.2 (omega arith) in
+    run-one c.loop-j.invariant more (byte ∙ ap (λ (b : ℕ). b % 128 + 128 * (v / 2 ^ (6 - j) % 2)) low)
 
 pub returns : goal.returns
 unfolding joined
 returns c =
     let rest : drop c.loop-j.j (take c.args.k (drop c.args.from c.args.store.now)) ≡ [] =
     drop_of_length-le _ {i = c.loop-j.j} (simp (length-take, length-drop) (omega arith)) in
-    run_end c.loop-j.invariant.1 (ap (joined (c.value_of-tops.result / 2 ^ last_place c.args.k)) rest)
+    run_end c.loop-j.invariant (ap (joined (c.value_of-tops.result / 2 ^ last_place c.args.k)) rest)

@@ -16,25 +16,25 @@ module _ (d : List ℕ) (from count start size : ℕ) (s : start ≡ min from (l
       let e : start + size - start ≡ size = omega arith in
       sym (h ∙ ap (λ (k : ℕ). well_packed (take k (drop start d))) e ∙ ap well_packed taken)
 
-pub returns-then-well_packed : goal.returns-then-well_packed
-returns-then-well_packed c =
+pub returns : goal.returns
+returns c =
     let d : List ℕ = c.args.store.now in
     let from : ℕ = c.args.from in
     let count : ℕ = c.args.count in
-    let start : ℕ = c.least-start.result in
-    let size : ℕ = c.least-size.result in
-    let p = taken d from count start size c.least-start.ensures c.least-size.ensures in
-    let w = tested d from count start size c.least-start.ensures c.least-size.ensures c.well_packed.result c.well_packed.ensures in
-    ap₂ (λ (n : ℕ) (l : List ℕ). (done n, l)) (c.unpack_all-n.ensures.counted ∙ ap (λ (p : List ℕ). length (data_in_groups p)) p)
-    (c.unpack_all-n.ensures.stored ∙ ap (λ (p : List ℕ). sets d 0 (data_in_groups p)) p)
-    ∙ sym (unpacked_done d from count (data_in_groups (part d from count)) (well_unpacks (part d from count) (w ∙ c.if-well_packed.true)))
+    let start : ℕ = c.min-start.result in
+    let size : ℕ = c.min-size.result in
+    let p = taken d from count start size c.min-start.ensures c.min-size.ensures in
+    let w = tested d from count start size c.min-start.ensures c.min-size.ensures c.well_packed.result c.well_packed.ensures in
+    ap₂ (λ (n : ℕ) (l : List ℕ). (done n, l)) (c.unpack_all.ensures.counted ∙ ap (λ (p : List ℕ). length (data_in_groups p)) p)
+    (c.unpack_all.ensures.stored ∙ ap (λ (p : List ℕ). sets d 0 (data_in_groups p)) p)
+    ∙ sym (unpacked_done d from count (data_in_groups (part d from count)) (well_unpacks (part d from count) (w ∙ c.if-not-well_packed.false)))
 
-pub returns-else-well_packed : goal.returns-else-well_packed
-returns-else-well_packed c =
+pub returns-then-not-well_packed : goal.returns-then-not-well_packed
+returns-then-not-well_packed c =
     let d : List ℕ = c.args.store.now in
     let from : ℕ = c.args.from in
     let count : ℕ = c.args.count in
-    let start : ℕ = c.least-start.result in
-    let size : ℕ = c.least-size.result in
-    let w = tested d from count start size c.least-start.ensures c.least-size.ensures c.well_packed.result c.well_packed.ensures in
-    sym (unpacked_refused d from count (badly_unpacks (part d from count) (w ∙ c.if-well_packed.false)))
+    let start : ℕ = c.min-start.result in
+    let size : ℕ = c.min-size.result in
+    let w = tested d from count start size c.min-start.ensures c.min-size.ensures c.well_packed.result c.well_packed.ensures in
+    sym (unpacked_refused d from count (badly_unpacks (part d from count) (w ∙ c.if-not-well_packed.true)))

@@ -1,26 +1,12 @@
-use mathlib.Core.Path.{refl}
-use lib.ListN.{take}
-use borrow.Author.Tests.{eq-eqb, ne_eqb}
+use Rattle.std.proofs.Common.{◌∙◌}
 use Rattle.pcs.proofs.OnByte.{judge_noise}
+use Rattle.pcs.proofs.Judge.{told_heard}
 use Rattle.pcs.proofs.inside_byte.Goals as goal
 
-pub returns-then-byte-eq-START : goal.returns-then-byte-eq-START
-returns-then-byte-eq-START c =
-    let t = eq-eqb _ _ c.if-byte-eq-START.true in
-    record { stepped = simp t (record { tells = refl; state = c.reopen.ensures }); stored = simp t }
+pub returns-in-254-clause-stepped : goal.returns-in-254-clause-stepped
+returns-in-254-clause-stepped c =
+    let tells = told_heard c.judge_frame.result c.map.result c.map.ensures.cases in
+    rw c.in-254.is (record { tells = tells ∙ c.judge_frame.ensures.told _; state = simp (judge_noise) c.close.ensures })
 
-pub returns-then-byte-eq-END : goal.returns-then-byte-eq-END
-returns-then-byte-eq-END c =
-    let a = c.args in
-    let g = take a.state.count a.store.now in
-    let n = ne_eqb _ _ c.if-byte-eq-START.false in
-    let t = eq-eqb _ _ c.if-byte-eq-END.true in
-    let j = c.judge_frame-event.ensures in
-    record { stepped = simp (n, t) (record { tells = j.told _; state = simp (judge_noise) c.close.ensures }); stored = simp (n, t) (j.stored _) }
-
-pub returns : goal.returns
-returns c =
-    let n = ne_eqb _ _ c.if-byte-eq-START.false in
-    let m = ne_eqb _ _ c.if-byte-eq-END.false in
-    let g = c.gather_byte.ensures in
-    record { stepped = simp (n, m) (g.stepped _); stored = simp (n, m) (g.stored _) }
+pub returns-in-254-clause-stored : goal.returns-in-254-clause-stored
+returns-in-254-clause-stored c = rw c.in-254.is (c.judge_frame.ensures.stored _)

@@ -1,36 +1,31 @@
-use Rattle.std.proofs.Common.{sym, refl, ◌∙◌, arith, length-set}
+use Rattle.std.proofs.Common.{◌≡◌, ℕ, ◌<◌, Bool, List, get_or, take, sym, ap, ◌∙◌, arith, get_or-take, length-take}
+use Rattle.runs.specs.Runs.{between}
 use Rattle.runs.proofs.Before.{before_within, before-mark, before-next}
 use Rattle.runs.proofs.Run.{sets_more}
 use Rattle.runs.proofs.copy_before.Goals as goal
 
-pub loop-k-init : goal.loop-k-init
-loop-k-init c = (omega arith, rw (c.least-stop.ensures, c.least.ensures, c.left.ensures), refl, refl, omega arith)
+-- what the test says of a byte of the first stop is so of the byte of s
+told : (low high stop : ℕ) (s : List ℕ) (k : ℕ) {t u : Bool} → k < stop → t ≡ between low high (get_or (take stop s) k 0) → t ≡ u → between low high (get_or s k 0) ≡ u
+told low high stop s k h e f = ap (between low high) (sym (get_or-take stop s k 0 h)) ∙ sym e ∙ f
 
--- `is_between` promises that the byte at k is a mark, so the count of those before it is k
-pub returns-then-is_between : goal.returns-then-is_between
-returns-then-is_between c =
-    let l = c.before in
-    let a = l.args in
-    let m = before-mark a.low a.high a.s.now l.loop-k.k (omega arith) (sym c.is_between.ensures ∙ c.if-is_between.true) in
-    record { count = omega (arith, l.loop-k.invariant); within = (omega arith, omega arith); stored = l.loop-k.invariant.3 }
-
-pub loop-k-smaller : goal.loop-k-smaller
-loop-k-smaller c = omega (arith, c.loop-k-test.true)
+pub returns-then-is_between-clause-count : goal.returns-then-is_between-clause-count
+returns-then-is_between-clause-count c =
+    let a = c.args in
+    let k = c.loop-k.k in
+    let h : k < c.min-stop.result = omega (arith, length-take c.min-stop.result a.s.now) in
+    omega (arith, before-mark a.low a.high a.s.now k (omega arith) (told a.low a.high c.min-stop.result a.s.now k h c.is_between.ensures c.if-is_between.true))
 
 pub loop-k-preserved : goal.loop-k-preserved
 loop-k-preserved c =
-    let l = c.before in
-    let a = l.args in
-    let h = l.loop-k.invariant in (
-      omega arith,
-      h.1,
-      simp length-set h.2,
-      rw h.3 (sym (sets_more a.out.now a.at a.s.now l.loop-k.k 0 (omega arith))),
-      omega (arith, h.4, before-next a.low a.high a.s.now l.loop-k.k (omega arith) (sym c.is_between.ensures ∙ c.if-is_between.false)),
+    let a = c.args in
+    let k = c.loop-k.k in
+    let h : k < c.min-stop.result = omega (arith, length-take c.min-stop.result a.s.now) in
+    let none = told a.low a.high c.min-stop.result a.s.now k h c.is_between.ensures c.if-is_between.false in (
+      rw (c.loop-k.invariant.0, get_or-take c.min-stop.result a.s.now k 0 h) (sym (sets_more a.out.now a.at a.s.now k 0 (omega arith))),
+      omega (arith, before-next a.low a.high a.s.now k (omega arith) none),
     )
 
-pub returns : goal.returns
-returns c =
-    let l = c.before in
-    let a = l.args in
-    record { count = omega (arith, l.loop-k.invariant, before_within a.low a.high a.s.now); within = (omega arith, omega arith); stored = l.loop-k.invariant.3 }
+pub returns-clause-count : goal.returns-clause-count
+returns-clause-count c =
+    let a = c.args in
+    omega (arith, before_within a.low a.high a.s.now, length-take c.min-stop.result a.s.now)

@@ -1,14 +1,10 @@
-use Rattle.std.proofs.Common.{◌+◌, ap, arith, drop_of_length-le}
-use mathlib.Core.List.{sum}
-use Rattle.runs.proofs.Bytes.{drop-next}
+use Rattle.std.proofs.Common.{rules, tests, ◌∙◌}
+use Rattle.std.proofs.lemmas.Iterator.{YieldsList-from_slice}
+use Rattle.std.proofs.lemmas.Iterator.Consumers.{fold_from_yields_List}
+use Rattle.runs.proofs.Carried.{total_fold}
 use Rattle.runs.proofs.total.Goals as goal
 
-pub loop-i-preserved : goal.loop-i-preserved
-unfolding sum
-loop-i-preserved c =
-    let t = c.before in
-    omega (arith, ap (sum ◌+◌ 0) (drop-next t.args.bytes.now t.loop-i.i t.loop-i-test.true), c.wrapping_add_u8-r.ensures)
-
 pub returns : goal.returns
-unfolding sum
-returns c = omega (arith, ap (sum ◌+◌ 0) (drop_of_length-le c.args.bytes.now c.loop-i-test.false))
+returns c =
+    fold_from_yields_List _ _ _ _ c.fold.ensures.ran (YieldsList-from_slice c.args.bytes.now cc) (λ t x s q k. search (rules, tests))
+    ∙ total_fold c.args.start c.args.bytes.now c.ranges.start.fits

@@ -1,25 +1,14 @@
-use mathlib.Core.Path.{refl, sym, ◌∙◌}
-use native.Mathlib.Omega.{arith}
-use Rattle.display.proofs.Loops.{digits_next, digits_differ, digits_end}
+use Rattle.std.proofs.Common.{refl, ◌∙◌, rules, tests, ◌&&◌}
+use Rattle.std.specs.List.{list_all}
+use Rattle.std.proofs.lemmas.Iterator.{YieldsList-from_slice}
+use Rattle.std.proofs.lemmas.Iterator.Search.{all_from_yields_List}
+use Rattle.std.proofs.lemmas.List.Recursion.{same_from_clauses}
+use Rattle.runs.specs.Runs.{between}
+use Rattle.decimal.specs.Decimal.{are_digits}
 use Rattle.display.proofs.text.are_digits.Goals as goal
 
-pub loop-i-init : goal.loop-i-init
-loop-i-init c = (omega arith, refl)
-
-pub returns-then-not-is_between : goal.returns-then-not-is_between
-returns-then-not-is_between c =
-    let a = c.args in
-    let l = c.loop-i in
-    sym (digits_differ a.digits.now l.i (omega arith) (sym c.is_between.ensures ∙ c.if-not-is_between.true)) ∙ l.invariant.1
-
-pub loop-i-preserved : goal.loop-i-preserved
-loop-i-preserved c =
-    let a = c.args in
-    let l = c.loop-i in
-    (omega arith, sym (digits_next a.digits.now l.i (omega arith) (sym c.is_between.ensures ∙ c.if-not-is_between.false)) ∙ l.invariant.1)
-
 pub returns : goal.returns
+unfolding are_digits
 returns c =
-    let a = c.args in
-    let l = c.loop-i in
-    sym (digits_end a.digits.now l.i (omega arith)) ∙ l.invariant.1
+    all_from_yields_List (between 48 57) _ _ _ c.all.ensures.ran (YieldsList-from_slice c.args.digits.now cc) (λ x b q k. search (rules, tests))
+    ∙ same_from_clauses (list_all (between 48 57)) are_digits (λ b r. between 48 57 b && r) refl (λ _ _. refl) (λ _ _. refl) c.args.digits.now

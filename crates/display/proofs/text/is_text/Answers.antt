@@ -1,19 +1,16 @@
+use Rattle.std.proofs.Common.{ap, sym, ◌∙◌}
 use Rattle.runs.proofs.Bytes.{part_rest}
 use Rattle.decimal.specs.Decimal.{is_numeral}
 use Rattle.display.specs.Profile.{word, most_digits}
-use Rattle.display.proofs.Loops.{begins_long, no_text}
-use mathlib.Core.Path.{ap, sym, ◌∙◌}
-use native.Mathlib.Omega.{arith}
+use Rattle.display.proofs.Loops.{begins_starts}
 use Rattle.display.proofs.text.is_text.Goals as goal
 
-pub returns-then-not-begins : goal.returns-then-not-begins
-returns-then-not-begins c = no_text c.args.«data».now (sym c.begins.ensures ∙ c.if-not-begins.true)
+pub returns-then-starts_with : goal.returns-then-starts_with
+returns-then-starts_with c =
+    let u = c.args.«data».now in
+    rw (sym (begins_starts word u) ∙ sym c.starts_with.ensures.value ∙ c.if-starts_with.true)
+    (c.is_numeral.ensures ∙ ap (is_numeral most_digits) (part_rest u 5))
 
-pub slice_bounds-is_numeral-count : goal.slice_bounds-is_numeral-count
-slice_bounds-is_numeral-count c = omega (arith, begins_long word _ (sym c.begins.ensures ∙ c.if-not-begins.false))
-
-pub slice_bounds-is_numeral-start : goal.slice_bounds-is_numeral-start
-slice_bounds-is_numeral-start c = omega (arith, begins_long word _ (sym c.begins.ensures ∙ c.if-not-begins.false))
-
-pub returns : goal.returns
-returns c = rw (sym c.begins.ensures ∙ c.if-not-begins.false) (c.is_numeral.ensures ∙ ap (is_numeral most_digits) (part_rest c.args.«data».now 5))
+pub returns-else-starts_with : goal.returns-else-starts_with
+returns-else-starts_with c =
+    rw (sym (begins_starts word c.args.«data».now) ∙ sym c.starts_with.ensures.value ∙ c.if-starts_with.false) c.if-starts_with.false

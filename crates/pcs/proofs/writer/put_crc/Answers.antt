@@ -1,16 +1,12 @@
-use native.Mathlib.Omega.{arith}
-use native.Mathlib.Numerals.{add-one, add-two, add-three}
-use lib.ListN.{length-set}
+use Rattle.std.proofs.Common.{◌+◌, ◌-◌, ap, ◌∙◌, arith, set}
+use native.Mathlib.Numerals.{add-three}
+use Rattle.framing.proofs.Stored.{part_copied}
+use Rattle.pcs.specs.Frame.{crc_bytes}
 use Rattle.pcs.proofs.writer.put_crc.Goals as goal
 
-pub bounds-out-at-2 : goal.bounds-out-at-2
-bounds-out-at-2 c = simp length-set (omega arith)
-
-pub bounds-out-at-3 : goal.bounds-out-at-3
-bounds-out-at-3 c = simp length-set (omega arith)
-
-pub bounds-out-at-4 : goal.bounds-out-at-4
-bounds-out-at-4 c = simp length-set (omega arith)
-
 pub returns : goal.returns
-returns c = rw (c.sent_as-low.ensures, c.sent_as-middle.ensures, c.sent_as-top.ensures, add-one, add-two, add-three)
+returns c =
+    let a = c.args in
+    let run = c.copy_from_slice.ensures.after ∙ c.crc_bytes.ensures in
+    ap (λ l. set l (a.at + 3) 254) (part_copied a.out.now (crc_bytes a.value) _ a.at (a.at + 3 - a.at) (omega (arith, c.requires)) (omega arith) run)
+    ∙ rw add-three

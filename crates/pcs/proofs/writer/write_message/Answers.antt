@@ -1,7 +1,6 @@
-use Prim.Native.Nat.{ℕ, ◌+◌, ◌≤◌}
-use mathlib.Core.Path.{◌≡◌, sym, ap, ◌∙◌}
-use native.Mathlib.Omega.{arith}
-use lib.ListN.{length}
+use Rattle.std.proofs.Common.{◌≡◌, ℕ, ◌+◌, ◌≤◌, length, sym, ap, ◌∙◌, arith}
+use Rattle.framing.specs.Answer.{outcome_of}
+use Rattle.framing.proofs.Numbers.{passed_up}
 use Rattle.framing.proofs.Faults.{least_refused, least_passed}
 use Rattle.framing.proofs.Stored.{writes_done, writes_short}
 use Rattle.pcs.specs.Frame.{Message, ok, trailing, frame}
@@ -21,24 +20,20 @@ module _ (m : Message) (n : ℕ) (e : n ≡ packed_length (length m.payload)) wh
   least : 11 + n ≤ length (frame m)
   least = omega (arith, counted, (trailing_range m.crc).0)
 
-pub returns-then-fault-ne0 : goal.returns-then-fault-ne0
-returns-then-fault-ne0 c =
+pub returns-in_err-check_write : goal.returns-in_err-check_write
+returns-in_err-check_write c =
     let m = with_data c.args.message c.args.«data».now in
     let l = least m c.packed_length-packed.result c.packed_length-packed.ensures in
-    least_refused ok frame m c.args.out.now _ _ _ c.may_send.ensures l c.write_fault-fault.ensures c.if-fault-ne0.true
-
-pub overflow_sub-out : goal.overflow_sub-out
-overflow_sub-out c =
-    let m = with_data c.args.message c.args.«data».now in
-    let l = least m c.packed_length-packed.result c.packed_length-packed.ensures in
-    omega (arith, (least_passed ok frame m c.args.out.now _ _ _ c.may_send.ensures l c.write_fault-fault.ensures c.if-fault-ne0.false).1)
+    let f = c.in_err-check_write.field-0.0 in
+    ap (λ r. (outcome_of r, c.args.out.now)) (passed_up c.from_residual.result f c.from_residual.ensures)
+    ∙ least_refused ok frame m c.args.out.now _ _ _ c.may_send.ensures l c.check_write.ensures f c.in_err-check_write.was
 
 pub returns-then-out-plain-lt3 : goal.returns-then-out-plain-lt3
 returns-then-out-plain-lt3 c =
     let m = with_data c.args.message c.args.«data».now in
     let n = c.packed_length-packed.result in
     let l = least m n c.packed_length-packed.ensures in
-    let p = least_passed ok frame m c.args.out.now _ _ _ c.may_send.ensures l c.write_fault-fault.ensures c.if-fault-ne0.false in
+    let p = least_passed ok frame m c.args.out.now _ _ _ c.may_send.ensures l c.check_write.ensures _ c.in_ok-check_write.was in
     writes_short ok frame m c.args.out.now p.0 (omega (arith, counted m n c.packed_length-packed.ensures, ap trailing c.if-message.true, p.1))
 
 pub put_frame-requires : goal.put_frame-requires
@@ -46,7 +41,7 @@ put_frame-requires c =
     let m = with_data c.args.message c.args.«data».now in
     let n = c.packed_length-packed.result in
     let l = least m n c.packed_length-packed.ensures in
-    let p = least_passed ok frame m c.args.out.now _ _ _ c.may_send.ensures l c.write_fault-fault.ensures c.if-fault-ne0.false in
+    let p = least_passed ok frame m c.args.out.now _ _ _ c.may_send.ensures l c.check_write.ensures _ c.in_ok-check_write.was in
     let room : 10 + n + trailing m.crc ≤ length c.args.out.now =
     elim c.else-message.branch [
       | else-message-via-then-message+else-out-plain-lt3 w ↦ omega (arith, p.1, ap trailing w.if-message.true)
@@ -60,7 +55,7 @@ returns c =
     let m = with_data c.args.message c.args.«data».now in
     let n = c.packed_length-packed.result in
     let l = least m n c.packed_length-packed.ensures in
-    let p = least_passed ok frame m c.args.out.now _ _ _ c.may_send.ensures l c.write_fault-fault.ensures c.if-fault-ne0.false in
+    let p = least_passed ok frame m c.args.out.now _ _ _ c.may_send.ensures l c.check_write.ensures _ c.in_ok-check_write.was in
     let room : 10 + n + trailing m.crc ≤ length c.args.out.now =
     elim c.else-message.branch [
       | else-message-via-then-message+else-out-plain-lt3 w ↦ omega (arith, p.1, ap trailing w.if-message.true)
@@ -68,6 +63,3 @@ returns c =
     ] in
     let k = ap (λ (t : ℕ). 10 + n + t) c.trailing.ensures ∙ counted m n c.packed_length-packed.ensures in
     writes_done ok frame m c.args.out.now _ _ p.0 k (omega (arith, c.trailing.ensures)) c.put_frame.ensures
-
-pub overflow_add-end-2 : goal.overflow_add-end-2
-overflow_add-end-2 c = omega (arith, c.trailing.ensures, (trailing_range c.args.message.crc).1)

@@ -7,7 +7,7 @@ use Rattle.record.proofs.views.element_at.Goals as goal
 
 pub returns : goal.returns
 returns c =
-    let r = c.view.result in
+    let v = c.view.result in
     let i = c.args.index in
     c.view_element.ensures
-    ∙ (ap (λ (x : Bor (List ℕ)). viewing x.now r.kind r.count i) c.view.ensures.0 ∙ view_of c.args.bytes.now r.kind r.count i c.view.ensures.1)
+    ∙ (ap (λ (x : Bor (List ℕ)). viewing x.now v.kind v.count i) c.view.ensures.0 ∙ view_of c.args.bytes.now v.kind v.count i c.view.ensures.1)

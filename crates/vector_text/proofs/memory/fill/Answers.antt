@@ -1,6 +1,4 @@
-use mathlib.Core.Path.{sym, ◌∙◌}
-use native.Mathlib.Omega.{arith}
-use lib.ListN.{length}
+use Rattle.std.proofs.Common.{sym, ◌∙◌, arith, length}
 use Rattle.vector_text.specs.Laid.{byte_of, laid}
 use Rattle.vector_text.proofs.Laid.{length-laid, laid-at}
 use Rattle.vector_text.proofs.Stored.{stored_none, stored_next, stored_all, over-all}
@@ -11,9 +9,6 @@ loop-k-init c =
     let a = c.args in
     stored_none (omega (arith, length-laid (byte_of a.content) 0 (length a.out.now)))
 
-pub loop-k-smaller : goal.loop-k-smaller
-loop-k-smaller c = omega (arith, c.loop-k.invariant.long)
-
 pub loop-k-preserved : goal.loop-k-preserved
 loop-k-preserved c =
     let l = c.loop-k in
@@ -22,9 +17,6 @@ loop-k-preserved c =
     let n = length a.out.now in
     let byte = laid-at f n l.k (omega (arith, l.invariant.long)) in
     stored_next l.invariant (omega (arith, length-laid f 0 n, l.invariant.long)) (c.byte_of.ensures ∙ sym byte)
-
-pub shape_of-out : goal.shape_of-out
-shape_of-out c = c.loop-k.invariant.long
 
 pub returns : goal.returns
 returns c =

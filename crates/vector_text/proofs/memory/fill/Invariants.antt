@@ -1,4 +1,3 @@
-use Prim.Native.Nat.{◌-◌}
 use lib.ListN.{length}
 use Rattle.vector_text.specs.Laid.{byte_of, laid}
 use Rattle.vector_text.proofs.Stored.{Stored}
@@ -7,6 +6,3 @@ use Rattle.vector_text.proofs.memory.fill.Given as goal
 -- the first k bytes of the content are stored, and the others are still to come
 abbrev pub invariant-loop-k : goal.invariant-loop-k
 invariant-loop-k l = Stored l.initial.out (laid (byte_of l.content) (length l.initial.out)) l.k l.out
-
-abbrev pub decreases-loop-k : goal.decreases-loop-k
-decreases-loop-k l = length l.initial.out - l.k

@@ -1,8 +1,0 @@
-use native.Mathlib.Nat.{mod-lt}
-use lib.Dec.{lit<}
-use Rattle.checksum.specs.Tables.{Rows}
-use Rattle.checksum.proofs.long_entry.Goals as goal
-
-pub returns : goal.returns
-unfolding Rows
-returns c p rule = rule _ _ c.requires (mod-lt _ (lit< tt))

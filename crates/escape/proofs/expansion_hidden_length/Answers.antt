@@ -1,8 +1,0 @@
-use mathlib.Core.Path.{ap, ◌∙◌}
-use lib.ListN.{length}
-use Rattle.runs.specs.Runs.{each}
-use Rattle.escape.proofs.Form.{expansion-run}
-use Rattle.escape.proofs.expansion_hidden_length.Goals as goal
-
-pub returns : goal.returns
-returns c = c.length_by.ensures ∙ ap (λ run. length (each run c.args.bytes.now)) expansion-run

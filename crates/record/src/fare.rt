@@ -1,0 +1,132 @@
+// The two sorts of fares, u32 for the unsigned types and i32 for the signed ones, and an element of either.
+ghost use Rattle.std.specs.Prelude.{◌≡◌, Bool, true, false, ◌<◌, ◌^◌, refl};
+ghost use Rattle.std.specs.Int.Signed.{mag};
+ghost use Rattle.framing.specs.Answer.{outcome_of};
+ghost use Rattle.record.specs.Form.{bytes_in};
+ghost use Rattle.record.specs.Fares.{Signedness, unsigned_fares, signed_fares};
+ghost use Rattle.record.specs.Answers.{asked_unsigned, asked_signed};
+
+use super::form::Size;
+use framing::Refusal;
+
+// What stands at an element number of a record: none where the record counts no such element.
+#[derive(Clone, Copy, Debug, PartialEq, Eq, Hash)]
+pub enum Element {
+    Unsigned(Option<u32>),
+    Signed(Option<i32>),
+}
+
+// How fares of one signedness stand for the numbers of elements.
+pub trait Fare: Copy {
+    ghost fares: { Signedness Self };
+
+    ghost SIGNED: { Bool };
+
+    // Whether a record's type has to be signed for these fares.
+    const SIGNED: bool;
+
+    // The fare that a number of such a size stands for.
+    fn from_number(n: u32, size: Size) -> Self
+        requires { n < 256 ^ bytes_in size }
+        ensures { result ≡ fares.fare_of (bytes_in size) n };
+
+    // Whether such a size holds the fare.
+    fn is_held(self, size: Size) -> bool
+        ensures { result ≡ fares.holds (bytes_in size) self };
+
+    // The number of such a size that stands for the fare.
+    fn to_number(self, size: Size) -> u32
+        requires { fares.holds (bytes_in size) self ≡ true }
+        ensures { result ≡ fares.number_of (bytes_in size) self };
+
+    ghost sign: { SIGNED ≡ fares.signed };
+}
+
+impl Fare for u32 {
+    ghost fares = { unsigned_fares };
+
+    ghost SIGNED = { false };
+
+    const SIGNED: bool = false;
+
+    fn from_number(n: u32, _size: Size) -> u32 {
+        n
+    }
+
+    fn is_held(self, size: Size) -> bool {
+        self <= size.top()
+    }
+
+    fn to_number(self, _size: Size) -> u32 {
+        self
+    }
+
+    ghost sign = { refl };
+}
+
+// An element that is asked for as an unsigned fare.
+impl TryFrom<Element> for u32 {
+    type Error = Refusal;
+
+    ghost try_from_gives = { λ element r. outcome_of r ≡ asked_unsigned element };
+
+    fn try_from(element: Element) -> Result<u32, Refusal> {
+        match element {
+            Element::Unsigned(fare) => fare.ok_or(Refusal::NoElement),
+            Element::Signed(_) => Err(Refusal::OtherSign),
+        }
+    }
+}
+
+// The same as a signed one: a second impl, since each names the case that the other refuses.
+impl TryFrom<Element> for i32 {
+    type Error = Refusal;
+
+    ghost try_from_gives = { λ element r. outcome_of r ≡ asked_signed element };
+
+    fn try_from(element: Element) -> Result<i32, Refusal> {
+        match element {
+            Element::Signed(fare) => fare.ok_or(Refusal::NoElement),
+            Element::Unsigned(_) => Err(Refusal::OtherSign),
+        }
+    }
+}
+
+// How far a fare is from 0, or from -1 where it is negative: a size holds the fares for which this is below half of its numbers. `!x` is -1 - x.
+fn magnitude(fare: i32) -> u32
+    ensures { result ≡ mag fare }
+{
+    (if fare < 0 { !fare } else { fare }).cast_unsigned()
+}
+
+// Two's complement.
+impl Fare for i32 {
+    ghost fares = { signed_fares };
+
+    ghost SIGNED = { true };
+
+    const SIGNED: bool = true;
+
+    fn from_number(n: u32, size: Size) -> i32 {
+        let top = size.top();
+        if n <= top / 2 {
+            n.cast_signed()
+        } else {
+            !(top - n).cast_signed()
+        }
+    }
+
+    fn is_held(self, size: Size) -> bool {
+        magnitude(self) <= size.top() / 2
+    }
+
+    fn to_number(self, size: Size) -> u32 {
+        if self < 0 {
+            size.top() - magnitude(self)
+        } else {
+            self.cast_unsigned()
+        }
+    }
+
+    ghost sign = { refl };
+}

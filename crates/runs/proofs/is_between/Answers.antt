@@ -1,9 +1,0 @@
-use Rattle.std.proofs.Common.{le-leb}
-use borrow.Author.Tests.{lt-leb}
-use Rattle.runs.proofs.is_between.Goals as goal
-
-pub returns-then-low-byte : goal.returns-then-low-byte
-returns-then-low-byte c = simp (le-leb _ _ c.if-low-byte.true)
-
-pub returns-else-low-byte : goal.returns-else-low-byte
-returns-else-low-byte c = simp (lt-leb _ _ c.if-low-byte.false)
