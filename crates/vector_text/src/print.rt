@@ -3,7 +3,7 @@
 ghost use Rattle.std.specs.Prelude.{◌≡◌};
 
 use crate::memory;
-use framing::{Answer, Refusal};
+use framing::Answer;
 use std::io;
 
 // Bytes as they are.
@@ -83,11 +83,6 @@ pub fn mix(rt: &impl Print, name: &[u8], bytes: &[u8]) -> io::Result<()>
     named(rt, name, memory::mix(bytes))
 }
 
-// A refusal, by its number.
-pub fn refused(rt: &impl Print, refusal: Refusal) -> io::Result<()> {
-    print!(rt; " refused {refusal}")
-}
-
 // What a writer answered, the bytes under this name, and the memory lent.
 pub fn written(rt: &impl Print, answer: Answer, name: &[u8], out: &[u8]) -> io::Result<()>
     ensures { (name.exit.now ≡ name.entry.now) × (out.exit.now ≡ out.entry.now) }
@@ -99,7 +94,7 @@ pub fn written(rt: &impl Print, answer: Answer, name: &[u8], out: &[u8]) -> io::
             word(rt, name)?;
             bytes(rt, &out[..n])?;
         }
-        Err(refusal) => refused(rt, refusal)?,
+        Err(refusal) => print!(rt; " refused {refusal}")?,
     }
     mix(rt, b"memory", out)
 }

@@ -18,7 +18,7 @@ fn show_reply(
             print::word(rt, b"frame")?;
             print::bytes(rt, &out[..n])
         }
-        Err(refusal) => print::refused(rt, refusal),
+        Err(refusal) => print!(rt; " refused {refusal}"),
     }
 }
 

@@ -41,7 +41,7 @@ fn show_reading(rt: &impl Print, reading: Result<Order, Refusal>) -> io::Result<
             print::numbers(rt, b"order", &[order.receiver, order.sender, order.number])?;
             print::number(rt, b" ", u64::from(order.value))
         }
-        Err(refusal) => print::refused(rt, refusal),
+        Err(refusal) => print!(rt; " refused {refusal}"),
     }
 }
 

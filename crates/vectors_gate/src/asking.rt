@@ -10,7 +10,7 @@ fn show_told(rt: &impl Print, told: Told<Asked>) -> io::Result<()> {
         Ok(Some(Asked::Send { id, repeat })) => print::numbers(rt, b"send", &[id, repeat]),
         Ok(Some(Asked::Done)) => print::word(rt, b"done"),
         Ok(Some(Asked::GaveUp)) => print::word(rt, b"given-up"),
-        Err(refusal) => print::refused(rt, refusal),
+        Err(refusal) => print!(rt; " refused {refusal}"),
     }
 }
 

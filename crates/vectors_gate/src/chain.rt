@@ -10,14 +10,14 @@ fn show_down(rt: &impl Print, address: u8) -> io::Result<()> {
             print::named(rt, b"gives", u64::from(next))?;
             print::word(rt, b"here 0")
         }
-        Err(refusal) => print::refused(rt, refusal),
+        Err(refusal) => print!(rt; " refused {refusal}"),
     }
 }
 
 fn show_up(rt: &impl Print, address: u8) -> io::Result<()> {
     match gate::step_up(address) {
         Ok(next) => print::named(rt, b"gives", u64::from(next)),
-        Err(refusal) => print::refused(rt, refusal),
+        Err(refusal) => print!(rt; " refused {refusal}"),
     }
 }
 

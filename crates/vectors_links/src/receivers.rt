@@ -20,7 +20,7 @@ fn show_told<L: Shown>(rt: &impl Print, told: Told<L::Message>, store: &[u8]) ->
             print::number(rt, b" ", L::length(message) as u64)?;
             print::bytes(rt, L::data(store, message))
         }
-        Err(refusal) => print::refused(rt, refusal),
+        Err(refusal) => print!(rt; " refused {refusal}"),
     }
 }
 

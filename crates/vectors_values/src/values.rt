@@ -15,7 +15,7 @@ fn show_done<C: FnOnce(&mut [u8]) -> Answer>(rt: &impl Print, call: C) -> io::Re
             let n = memory::within(length, &memory);
             print::bytes(rt, &memory[..n])
         }
-        Err(refusal) => print::refused(rt, refusal),
+        Err(refusal) => print!(rt; " refused {refusal}"),
     }
 }
 
