@@ -1,20 +1,21 @@
 -- The register after a run in parts, for any register constant p: two parts, any blocks, some bytes more, all bits at once.
 use mathlib.Core.Path.{◌≡◌, refl, sym, ap, ap₂, ◌∙◌}
 use mathlib.Core.List.{List, [], ◌∷◌, ◌++◌, foldl, flatten, map}
-use Prim.Native.Nat.{ℕ, zero, suc, ◌+◌, ◌*◌, ◌/◌, ◌-◌, ◌^◌, ◌≤◌}
+use Prim.Native.Nat.{ℕ, zero, suc, ◌+◌, ◌*◌, ◌/◌, ◌-◌, ◌^◌, ◌≤◌, ◌<◌}
 use native.Mathlib.Omega.{arith}
 use lib.Bits.{bit_xor, xor_zero_r, xor_comm, xor_shifted}
-use lib.ListN.{length, take, drop, length-drop, take-append-drop}
-use lib.Seq.{length-take-le, take-add}
+use lib.ListN.{length, get_or, take, drop, length-drop, drop_of_length-le, take-append-drop}
+use lib.Seq.{drop-drop, length-take-le, take-add}
 use Rattle.std.specs.List.{fold}
 use Rattle.std.specs.Int.{from_le_bytes}
 use Rattle.std.specs.Simd.{first_chunks}
 use Rattle.std.proofs.Common.{w32}
-use Rattle.runs.proofs.Bytes.{bytes_take, bytes_drop}
+use Rattle.runs.proofs.Bytes.{drop-next, bytes_take, bytes_drop}
 use Rattle.runs.specs.Runs.{Bytes}
 use Rattle.runs.specs.Number.{little_endian}
 use Rattle.checksum.specs.Crc.{shifts, byte_step, run, crc32_of}
 use Rattle.checksum.specs.Braids.{run_words}
+use Rattle.checksum.specs.Tables.{AfterBytes}
 use Rattle.checksum.specs.Claims.{CarriedOn}
 use Rattle.checksum.proofs.Xor.{xor_undo, xor_assoc}
 use Rattle.checksum.proofs.Linear.{shifts_add, shifts-sum, shifts-zeros}
@@ -60,6 +61,25 @@ run_number p c (b ∷ u) h =
 
     joined : bit_xor (bit_xor c b) (little_endian u * 2 ^ 8) ≡ bit_xor c (little_endian u * 2 ^ 8 + b)
     joined = xor_assoc c b (little_endian u * 2 ^ 8) ∙ ap (bit_xor c) (xor_comm b (little_endian u * 2 ^ 8) ∙ xor_shifted (little_endian u) 8 b (h 0))
+
+pub bytes_start : (p s : ℕ) (u : List ℕ) → AfterBytes p s u 0 s
+bytes_start p s u = (omega arith, refl)
+
+-- n bytes more
+pub bytes_more : (p s : ℕ) (u : List ℕ) (i n c d : ℕ) → AfterBytes p s u i c → i + n ≤ length u → d ≡ run p c (take n (drop i u)) → AfterBytes p s u (i + n) d
+bytes_more p s u i n c d a h e = (
+  h,
+  ap₂ (run p) e (sym (drop-drop n i u)) ∙ sym (run_append p c (take n (drop i u)) (drop n (drop i u))) ∙ ap (run p c) (take-append-drop n (drop i u)) ∙ a.1,
+)
+
+-- one byte more
+pub bytes_next : (p s : ℕ) (u : List ℕ) (i c d : ℕ) → AfterBytes p s u i c → i < length u → d ≡ shifts p 8 (bit_xor c (get_or u i 0)) → AfterBytes p s u (i + 1) d
+unfolding run byte_step
+bytes_next p s u i c d a h e = bytes_more p s u i 1 c d a (omega arith) (e ∙ sym (ap (λ (l : List ℕ). run p c (take 1 l)) (drop-next u i h)))
+
+pub bytes_end : (p s : ℕ) (u : List ℕ) (i c : ℕ) → AfterBytes p s u i c → length u ≤ i → c ≡ run p s u
+unfolding run
+bytes_end p s u i c a h = sym (ap (run p c) (drop_of_length-le u h)) ∙ a.1
 
 -- the register along a run of bytes, as a fold
 pub run_fold : (p c : ℕ) (u : List ℕ) → fold (byte_step p) c u ≡ run p c u

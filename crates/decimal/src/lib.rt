@@ -12,6 +12,10 @@ use framing::{Answer, Refusal};
 pub fn digit_count(n: u64) -> usize
     ensures { (result ≡ length (decimal n)) × (result ≤ 20) }
 {
+    // a logarithm takes longer than this test
+    if n < 10 {
+        return 1;
+    }
     n.checked_ilog10().map_or(1, |k| k as usize + 1)
 }
 

@@ -18,7 +18,7 @@ ghost use Rattle.dle.specs.Contract.{data_of, link};
 ghost use Rattle.dle.specs.Steps.{judged, ByRules, Passes};
 
 use escape::{Dle as Doubling, Enclosed};
-use framing::{Answer, Link, Reached, Refusal, State, Stepped};
+use framing::{Answer, Link, Reached, Refusal, State, Stepped, Turn};
 
 // An accepted message: length 0 marks an error message with its error byte; else so much data lies in the store from place 3.
 // Sequence and node do not stand side by side: they would be loaded together where they were stored apart, which takes longer.
@@ -103,19 +103,25 @@ impl Link for Dle {
     }
 
     // Noise, or bytes of an open frame with no 10 waiting. A `match` on the mode, here and in `step`: a caller may hold any number there.
-    fn advance(state: State, store: &mut [u8], piece: &[u8], from: usize) -> Reached<State> {
+    fn advance(
+        turn: &Turn,
+        state: State,
+        store: &mut [u8],
+        piece: &[u8],
+        from: usize,
+    ) -> Reached<State> {
         match state.mode {
-            0 => pass_to_frame(state, store, piece, from),
-            2 => Self::pass_bytes(state, store, piece, from),
+            0 => pass_to_frame(turn, state, store, piece, from),
+            2 => Self::pass_bytes(turn, state, store, piece, from),
             _ => Reached { state, next: from },
         }
     }
 
-    fn step(state: State, store: &mut [u8], byte: u8) -> Stepped<Message, State> {
+    fn step(turn: &Turn, state: State, store: &mut [u8], byte: u8) -> Stepped<Message, State> {
         match state.mode {
             0 => hunt(state, byte),
             1 => begin(state, byte),
-            _ => Self::take_byte(state, store, byte),
+            _ => Self::take_byte(turn, state, store, byte),
         }
     }
 
@@ -227,14 +233,20 @@ fn pass_start(state: State, piece: &[u8], from: usize) -> Reached<State>
 }
 
 // Hunting: the noise up to the next 10 and, where that starts a frame, its mark and its bytes.
-fn pass_to_frame(state: State, store: &mut [u8], piece: &[u8], from: usize) -> Reached<State>
+fn pass_to_frame(
+    turn: &Turn,
+    state: State,
+    store: &mut [u8],
+    piece: &[u8],
+    from: usize,
+) -> Reached<State>
     requires { (state.mode ≡ 0) × Room size state store.old × (from ≤ length piece.now) }
     ensures { Passes piece.now (state, store.old) from result store.new }
 {
     let noise = state.pass_hunting(piece, from, 0x10);
     let start = pass_start(noise.state, piece, noise.next);
     if start.state.mode == 2 {
-        Dle::pass_bytes(start.state, store, piece, start.next)
+        Dle::pass_bytes(turn, start.state, store, piece, start.next)
     } else {
         start
     }

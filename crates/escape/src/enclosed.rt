@@ -8,7 +8,7 @@ ghost use Rattle.escape.specs.Code.{hide, meaning};
 ghost use Rattle.escape.specs.Enclosed.{taken, passed};
 
 use super::{Code, Meaning, put_bytes};
-use framing::{Answer, Reached, Refusal, State, Stepped};
+use framing::{Answer, Reached, Refusal, State, Stepped, Turn};
 
 // A link whose frames hide their bytes by a code. While a frame is open, its bytes lie gathered at the front of the store.
 pub trait Enclosed {
@@ -43,7 +43,12 @@ pub trait Enclosed {
         ensures { outcome_of result ≡ judged gathered.now };
 
     // One wire byte of an open frame.
-    final fn take_byte(state: State, store: &mut [u8], byte: u8) -> Stepped<Self::Message, State>
+    final fn take_byte(
+        _turn: &Turn,
+        state: State,
+        store: &mut [u8],
+        byte: u8,
+    ) -> Stepped<Self::Message, State>
         requires { Room MOST state store.old }
         ensures { ((result.state, store.new), told_of result.told)
             ≡ taken MOST OPEN WAITING MARK judged state store.old (meaning Self.Code.code (state.mode == WAITING) byte) }
@@ -70,7 +75,13 @@ pub trait Enclosed {
     }
 
     // The wire bytes of an open frame from a place on, as far as whole bytes come and the size allows.
-    final fn pass_bytes(state: State, store: &mut [u8], piece: &[u8], from: usize) -> Reached<State>
+    final fn pass_bytes(
+        _turn: &Turn,
+        state: State,
+        store: &mut [u8],
+        piece: &[u8],
+        from: usize,
+    ) -> Reached<State>
         requires room { Room MOST state store.old }
         requires within { from ≤ length piece.now }
         ensures { (result, store.new) ≡ passed Self.Code.code MOST state store.old piece.now from }

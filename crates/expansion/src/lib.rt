@@ -18,7 +18,7 @@ ghost use Rattle.expansion.specs.Contract.{data_of, link};
 ghost use Rattle.expansion.specs.Steps.{judged, ByRules};
 
 use escape::{Enclosed, Expansion as Escape};
-use framing::{Answer, Link, Reached, Refusal, State, Stepped};
+use framing::{Answer, Link, Reached, Refusal, State, Stepped, Turn};
 
 // An accepted message; its data lies in the store from place 4. The kind stays a number, since a call of `linebox_expansion_write` may give any,
 // and one that is none is answered with 3.
@@ -113,18 +113,24 @@ impl Link for Expansion {
     }
 
     // Noise, or bytes of an open frame with no FF waiting. A `match` on the mode, here and in `step`: a caller may hold any number there.
-    fn advance(state: State, store: &mut [u8], piece: &[u8], from: usize) -> Reached<State> {
+    fn advance(
+        turn: &Turn,
+        state: State,
+        store: &mut [u8],
+        piece: &[u8],
+        from: usize,
+    ) -> Reached<State> {
         match state.mode {
             0 => state.pass_hunting(piece, from, 0xFD),
-            1 => Self::pass_bytes(state, store, piece, from),
+            1 => Self::pass_bytes(turn, state, store, piece, from),
             _ => Reached { state, next: from },
         }
     }
 
-    fn step(state: State, store: &mut [u8], byte: u8) -> Stepped<Message, State> {
+    fn step(turn: &Turn, state: State, store: &mut [u8], byte: u8) -> Stepped<Message, State> {
         match state.mode {
             0 => hunt(state, byte),
-            _ => Self::take_byte(state, store, byte),
+            _ => Self::take_byte(turn, state, store, byte),
         }
     }
 

@@ -29,6 +29,13 @@ pub struct Stepped<M, S> {
     pub state: S,
 }
 
+// A call's turns over a piece. Only the loop of `scan` makes it, and lends it to the link, which cannot keep it: so no other call can ask a link to
+// take bytes of a state and a store that nobody looked at.
+#[derive(Drop)]
+pub struct Turn {
+    begun: (),
+}
+
 pub trait Link {
     // The numbers that are told of a message. Its data lie in the store, which is lent anew at each call, so they are named by a length, not held.
     type Message: Copy;
@@ -73,6 +80,7 @@ pub trait Link {
 
     // The bytes that are passed at once, without an event.
     fn advance(
+        turn: &Turn,
         state: Self::State,
         store: &mut [u8],
         piece: &[u8],
@@ -84,7 +92,12 @@ pub trait Link {
         ensures due { result.next < length piece.now → Due result.state store.new };
 
     // One byte.
-    fn step(state: Self::State, store: &mut [u8], byte: u8) -> Stepped<Self::Message, Self::State>
+    fn step(
+        turn: &Turn,
+        state: Self::State,
+        store: &mut [u8],
+        byte: u8,
+    ) -> Stepped<Self::Message, Self::State>
         requires { Due state store.old }
         ensures tells { told_of result.told ≡ told (step_on (state, store.old) byte).1 }
         ensures leaves { (result.state, store.new) ≡ (step_on (state, store.old) byte).0 }
@@ -140,11 +153,12 @@ fn scan<L: Link>(state: L::State, store: &mut [u8], piece: &[u8]) -> Received<L:
     requires { L.Ready state store.old }
     ensures { received_of result store.new ≡ reported L.told (feed L.step_on (state, store.old) piece.now) }
 {
+    let turn = Turn { begun: () };
     let mut current = state;
     let mut i = 0;
     // no `for`: a turn goes as far as the link passes bytes
     loop {
-        let reached = L::advance(current, store, piece, i);
+        let reached = L::advance(&turn, current, store, piece, i);
         i = reached.next;
         if i == piece.len() {
             return Received {
@@ -153,15 +167,21 @@ fn scan<L: Link>(state: L::State, store: &mut [u8], piece: &[u8]) -> Received<L:
                 state: reached.state,
             };
         }
-        let stepped = L::step(reached.state, store, piece[i]);
-        current = stepped.state;
+        let stepped = L::step(&turn, reached.state, store, piece[i]);
         i += 1;
-        if !matches!(stepped.told, Ok(None)) {
-            return Received {
-                told: stepped.told,
-                used: i,
-                state: current,
-            };
-        }
+        // a case for each of the two: one test for both would stand behind every byte
+        let told = match stepped.told {
+            Ok(None) => {
+                current = stepped.state;
+                continue;
+            }
+            Ok(Some(message)) => Ok(Some(message)),
+            Err(refusal) => Err(refusal),
+        };
+        return Received {
+            told,
+            used: i,
+            state: stepped.state,
+        };
     }
 }

@@ -18,7 +18,7 @@ ghost use Rattle.mdu.specs.Rules.{size};
 ghost use Rattle.mdu.specs.Contract.{fresh_state, known_state, data_of, link};
 ghost use Rattle.mdu.specs.Steps.{Ready, Due};
 
-use framing::{Answer, Link, Reached, Stepped};
+use framing::{Answer, Link, Reached, Stepped, Turn};
 use header::length_ok;
 
 // What the receiver keeps between calls: what every link's does, and from byte six of a frame on its stated length.
@@ -104,7 +104,13 @@ impl Link for Mdu {
     }
 
     // Noise, the bytes of a body, or none.
-    fn advance(state: State, store: &mut [u8], piece: &[u8], from: usize) -> Reached<State> {
+    fn advance(
+        _turn: &Turn,
+        state: State,
+        store: &mut [u8],
+        piece: &[u8],
+        from: usize,
+    ) -> Reached<State> {
         if state.base.mode == 0 {
             receiver::pass_noise(state, piece, from)
         } else if state.base.count < 6 {
@@ -115,7 +121,7 @@ impl Link for Mdu {
     }
 
     // Of a body and its check value only the last byte.
-    fn step(state: State, store: &mut [u8], byte: u8) -> Stepped<Message, State> {
+    fn step(_turn: &Turn, state: State, store: &mut [u8], byte: u8) -> Stepped<Message, State> {
         if state.base.mode == 0 {
             receiver::hunt(state, store, byte)
         } else if state.base.count < 6 {

@@ -70,7 +70,8 @@ fn stated_length(gathered: &[u8]) -> Result<usize, Refusal>
     if gathered[5] != header_sum(&gathered[..5]) {
         return Err(Refusal::WrongCheck);
     }
-    let length = usize::from(u16::from_be_bytes([gathered[2], gathered[3]]));
+    // not `from_be_bytes`: a load of both bytes at once would wait until the stores of either are done
+    let length = usize::from(gathered[2]) * 256 + usize::from(gathered[3]);
     if !length_ok(length) {
         return Err(Refusal::WrongLength);
     }

@@ -23,7 +23,7 @@ ghost use Rattle.pcs.specs.Rules as Rules;
 ghost use Rattle.pcs.specs.Contract.{phase_of, front_of, numbers_of, data_of, link};
 ghost use Rattle.pcs.specs.Steps.{trailer_fault, heard, ByRules, Ready, Open};
 
-use framing::{Answer, Link, Reached, Refusal, State, Stepped};
+use framing::{Answer, Link, Reached, Refusal, State, Stepped, Turn};
 
 // The least store of a receiver: a header of 8 bytes, at most 1,171 packed bytes, the sum, three bytes of CRC.
 const SIZE: usize = 1183;
@@ -121,7 +121,13 @@ impl Link for Pcs {
     }
 
     // Noise, or bytes of an open frame. A `match` on the mode, here and in `step`: a caller may hold any number there.
-    fn advance(state: State, store: &mut [u8], piece: &[u8], from: usize) -> Reached<State> {
+    fn advance(
+        _turn: &Turn,
+        state: State,
+        store: &mut [u8],
+        piece: &[u8],
+        from: usize,
+    ) -> Reached<State> {
         match state.mode {
             0 => state.pass_hunting(piece, from, fields::START),
             1 => pass_bytes(state, store, piece, from),
@@ -129,7 +135,7 @@ impl Link for Pcs {
         }
     }
 
-    fn step(state: State, store: &mut [u8], byte: u8) -> Stepped<Message, State> {
+    fn step(_turn: &Turn, state: State, store: &mut [u8], byte: u8) -> Stepped<Message, State> {
         if state.mode == 0 {
             hunt(state, byte)
         } else {
@@ -232,7 +238,10 @@ fn judge_frame(store: &mut [u8], count: usize) -> Result<Message, Refusal>
     let numbers = numbers_of(gathered);
     let packed = fields::stated_by(gathered[4], gathered[5]);
     let length = packing::unpack_in_place(store, 8, packed)?;
-    Ok(Message { length, ..numbers })
+    // copied whole, and not `..numbers`: fields that are written one by one make a load of several of them wait, as host's has one
+    let mut message = numbers;
+    message.length = length;
+    Ok(message)
 }
 
 // The first test before unpacking that a frame's gathered bytes fail.

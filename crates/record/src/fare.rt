@@ -16,6 +16,12 @@ pub enum Element {
     Signed(Option<i32>),
 }
 
+// An element that a call of this crate goes through. Only those calls make one, so no other can ask a fare for a number that its size does not hold.
+#[derive(Drop)]
+pub struct Place {
+    pub(crate) within: (),
+}
+
 // How fares of one signedness stand for the numbers of elements.
 pub trait Fare: Copy {
     ghost fares: { Signedness Self };
@@ -26,7 +32,7 @@ pub trait Fare: Copy {
     const SIGNED: bool;
 
     // The fare that a number of such a size stands for.
-    fn from_number(n: u32, size: Size) -> Self
+    fn from_number(place: &Place, n: u32, size: Size) -> Self
         requires { n < 256 ^ bytes_in size }
         ensures { result ≡ fares.fare_of (bytes_in size) n };
 
@@ -35,7 +41,7 @@ pub trait Fare: Copy {
         ensures { result ≡ fares.holds (bytes_in size) self };
 
     // The number of such a size that stands for the fare.
-    fn to_number(self, size: Size) -> u32
+    fn to_number(self, place: &Place, size: Size) -> u32
         requires { fares.holds (bytes_in size) self ≡ true }
         ensures { result ≡ fares.number_of (bytes_in size) self };
 
@@ -49,7 +55,7 @@ impl Fare for u32 {
 
     const SIGNED: bool = false;
 
-    fn from_number(n: u32, _size: Size) -> u32 {
+    fn from_number(_place: &Place, n: u32, _size: Size) -> u32 {
         n
     }
 
@@ -57,7 +63,7 @@ impl Fare for u32 {
         self <= size.top()
     }
 
-    fn to_number(self, _size: Size) -> u32 {
+    fn to_number(self, _place: &Place, _size: Size) -> u32 {
         self
     }
 
@@ -107,7 +113,7 @@ impl Fare for i32 {
 
     const SIGNED: bool = true;
 
-    fn from_number(n: u32, size: Size) -> i32 {
+    fn from_number(_place: &Place, n: u32, size: Size) -> i32 {
         let top = size.top();
         if n <= top / 2 {
             n.cast_signed()
@@ -120,7 +126,7 @@ impl Fare for i32 {
         magnitude(self) <= size.top() / 2
     }
 
-    fn to_number(self, size: Size) -> u32 {
+    fn to_number(self, _place: &Place, size: Size) -> u32 {
         if self < 0 {
             size.top() - magnitude(self)
         } else {

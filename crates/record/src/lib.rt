@@ -7,8 +7,8 @@ mod read;
 mod views;
 mod writer;
 
-pub use fare::{Element, Fare};
+pub use fare::{Element, Fare, Place};
 pub use form::{Form, Size, form_of};
 pub use read::copy;
-pub use views::{RecordView, element, element_at, view, view_element};
+pub use views::{RecordView, as_signed, as_unsigned, element, element_at, view, view_element};
 pub use writer::write;

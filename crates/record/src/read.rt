@@ -5,7 +5,7 @@ ghost use Rattle.record.specs.Fares.{fare_at};
 ghost use Rattle.record.specs.Answers.{copying};
 ghost use Rattle.record.specs.Helpers.{Found};
 
-use super::fare::Fare;
+use super::fare::{Fare, Place};
 use super::form::{Header, header_of};
 use framing::{Answer, Refusal};
 use runs::number_at;
@@ -17,7 +17,8 @@ pub(crate) fn fare_at<F: Fare>(bytes: &[u8], header: Header, index: usize) -> F
 {
     let size = header.form.size;
     let width = usize::from(size);
-    F::from_number(number_at(bytes, 5 + width * index, width), size)
+    let place = Place { within: () };
+    F::from_number(&place, number_at(bytes, 5 + width * index, width), size)
 }
 
 // Copies the fares of a record of their signedness to the start of out and answers their count.

@@ -68,6 +68,20 @@ pub fn element_at(bytes: &[u8], index: usize) -> Result<Element, Refusal>
     view_element(view(bytes), index)
 }
 
+// An element, or the refusal in its place, asked for as an unsigned fare.
+pub fn as_unsigned(element: Result<Element, Refusal>) -> Result<u32, Refusal>
+    ensures { outcome_of result ≡ (outcomes_of element).0 }
+{
+    u32::try_from(element?)
+}
+
+// The same, asked for as a signed one: a function of its own, since the answer's type is the one that is asked for.
+pub fn as_signed(element: Result<Element, Refusal>) -> Result<i32, Refusal>
+    ensures { outcome_of result ≡ (outcomes_of element).1 }
+{
+    i32::try_from(element?)
+}
+
 // The fare at an index of a record of its signedness.
 pub fn element<F: Fare>(bytes: &[u8], index: usize) -> Result<F, Refusal>
     ensures { outcome_of result ≡ reading F.fares bytes.now index }

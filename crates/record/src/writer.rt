@@ -8,7 +8,7 @@ ghost use Rattle.record.specs.Form.{bytes_in};
 ghost use Rattle.record.specs.Fares.{elements};
 ghost use Rattle.record.specs.Answers.{writing};
 
-use super::fare::Fare;
+use super::fare::{Fare, Place};
 use super::form::{Size, allowed_form};
 use framing::{Answer, Refusal};
 use runs::put_number;
@@ -36,8 +36,9 @@ fn put_elements<F: Fare>(fares: &[F], size: Size, out: &mut [u8])
     ensures { out.new ≡ sets out.old 5 (elements F.fares (bytes_in size) fares.now) }
 {
     let bytes = usize::from(size);
+    let place = Place { within: () };
     for (i, &fare) in fares.iter().enumerate() {
-        put_number(out, 5 + bytes * i, bytes, fare.to_number(size));
+        put_number(out, 5 + bytes * i, bytes, fare.to_number(&place, size));
     }
 }
 

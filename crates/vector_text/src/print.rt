@@ -3,7 +3,7 @@
 ghost use Rattle.std.specs.Prelude.{◌≡◌};
 
 use crate::memory;
-use framing::Answer;
+use framing::Numbered;
 use std::io;
 
 // Bytes as they are.
@@ -52,13 +52,17 @@ pub fn named(rt: &impl Print, name: &[u8], value: u64) -> io::Result<()>
     next(rt, value)
 }
 
-// Bytes in upper-case hex, behind a space.
+// Bytes in upper-case hex, behind a space: eight of them are one number, since a call of the formatter costs more than a digit.
 pub fn hex(rt: &impl Print, bytes: &[u8]) -> io::Result<()>
     ensures { bytes.exit.now ≡ bytes.entry.now }
 {
     text(rt, b" ")?;
-    for byte in bytes {
-        print!(rt; "{byte:02X}")?;
+    for part in bytes.chunks(8) {
+        let value = part
+            .iter()
+            .fold(0u64, |value, byte| value << 8 | u64::from(*byte));
+        let width = 2 * part.len();
+        print!(rt; "{value:0width$X}")?;
     }
     Ok(())
 }
@@ -83,8 +87,13 @@ pub fn mix(rt: &impl Print, name: &[u8], bytes: &[u8]) -> io::Result<()>
     named(rt, name, memory::mix(bytes))
 }
 
-// What a writer answered, the bytes under this name, and the memory lent.
-pub fn written(rt: &impl Print, answer: Answer, name: &[u8], out: &[u8]) -> io::Result<()>
+// What a writer answered, whatever stands for the number of its refusal, the bytes under this name, and the memory lent.
+pub fn written<E: Numbered>(
+    rt: &impl Print,
+    answer: Result<usize, E>,
+    name: &[u8],
+    out: &[u8],
+) -> io::Result<()>
     ensures { (name.exit.now ≡ name.entry.now) × (out.exit.now ≡ out.entry.now) }
 {
     match answer {
@@ -94,7 +103,7 @@ pub fn written(rt: &impl Print, answer: Answer, name: &[u8], out: &[u8]) -> io::
             word(rt, name)?;
             bytes(rt, &out[..n])?;
         }
-        Err(refusal) => print!(rt; " refused {refusal}")?,
+        Err(refusal) => named(rt, b"refused", u64::from(refusal.number()))?,
     }
     mix(rt, b"memory", out)
 }

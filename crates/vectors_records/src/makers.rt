@@ -15,17 +15,21 @@ fn write<F: Sort>(line: &[u8], memory: &mut [F], out: &mut [u8]) -> Answer {
     record::write(words::byte(line, 2), words::number16(line, 3), fares, out)
 }
 
+// The fares of either sort have a memory of their own, laid out for a line that needs it.
+fn write_sort(line: &[u8], out: &mut [u8]) -> Answer {
+    if words::is(line, 1, b"signed") {
+        write(line, &mut [0i32; MOST], out)
+    } else {
+        write(line, &mut [0u32; MOST], out)
+    }
+}
+
 fn make(rt: &impl Print, line: &[u8]) -> io::Result<()> {
     let mut memory = [0u8; memory::SIZE];
     let room = memory::within(words::size(line, 5), &memory);
     let out = &mut memory[..room];
     memory::fill(Content::Lent, out);
-    let answer = if words::is(line, 1, b"signed") {
-        write(line, &mut [0i32; MOST], out)
-    } else {
-        write(line, &mut [0u32; MOST], out)
-    };
-    print::written(rt, answer, b"record", out)
+    print::written(rt, write_sort(line, out), b"record", out)
 }
 
 pub(crate) fn run(rt: &impl Print, line: &[u8]) -> io::Result<()> {

@@ -25,25 +25,17 @@ fn element<F: Sort>(rt: &impl Print, line: &[u8], payload: &[u8]) -> io::Result<
     fares::show(rt, record::element::<F>(payload, words::size(line, 3)))
 }
 
-fn run_sort<F: Sort>(
-    rt: &impl Print,
-    line: &[u8],
-    payload: &[u8],
-    memory: &mut [F],
-) -> io::Result<()> {
-    match words::word(line, 0) {
-        b"copy" => copy(rt, line, payload, memory),
-        b"element" => element::<F>(rt, line, payload),
-        _ => Ok(()),
-    }
-}
-
+// The memory of fares is laid out for a line that copies, not for each.
 pub(crate) fn run(rt: &impl Print, line: &[u8], kept: &[u8]) -> io::Result<()> {
     let mut payload = [0u8; memory::SIZE];
     let n = words::bytes(line, 2, kept, &mut payload);
-    if words::is(line, 1, b"signed") {
-        run_sort(rt, line, &payload[..n], &mut [0i32; MOST])
-    } else {
-        run_sort(rt, line, &payload[..n], &mut [0u32; MOST])
+    let payload = &payload[..n];
+    let signed = words::is(line, 1, b"signed");
+    match words::word(line, 0) {
+        b"copy" if signed => copy(rt, line, payload, &mut [0i32; MOST]),
+        b"copy" => copy(rt, line, payload, &mut [0u32; MOST]),
+        b"element" if signed => element::<i32>(rt, line, payload),
+        b"element" => element::<u32>(rt, line, payload),
+        _ => Ok(()),
     }
 }
