@@ -1,12 +1,14 @@
 // The DLE link of gas meters: writer and receiver.
 #![tactic(auto)]
 
-ghost use Rattle.std.specs.Prelude.{◌≡◌, List, ◌++◌, ℕ, ◌+◌, ◌≤◌, length};
+ghost use Rattle.std.specs.Prelude.{◌≡◌, List, ◌++◌, ℕ, ◌+◌, ◌≤◌, ◌<◌, length};
 ghost use Rattle.framing.specs.Answer.{outcome_of, stored_at};
 ghost use Rattle.framing.specs.Writer.{writes};
 ghost use Rattle.framing.specs.Segment as Segment;
 ghost use Rattle.framing.specs.State.{fresh_state, known_state};
 ghost use Rattle.framing.specs.Link.{told, step_on, receives};
+ghost use Rattle.framing.specs.Call.{told_of};
+ghost use Rattle.framing.specs.Passing.{Leads};
 ghost use Rattle.framing.specs.Whole.{read_on};
 ghost use Rattle.framing.specs.Open.{Room};
 ghost use Rattle.framing.proofs.Called as Called;
@@ -104,12 +106,17 @@ impl Link for Dle {
 
     // Noise, or bytes of an open frame with no 10 waiting. A `match` on the mode, here and in `step`: a caller may hold any number there.
     fn advance(
-        turn: &Turn,
+        turn: &Turn<Self>,
         state: State,
         store: &mut [u8],
         piece: &[u8],
         from: usize,
-    ) -> Reached<State> {
+    ) -> Reached<State>
+        requires ready { Room size state store.old }
+        requires within { from ≤ length piece.now }
+        ensures leads { Leads (step_on link) piece.now (state, store.old) from (result.state, store.new) result.next }
+        ensures due { result.next < length piece.now → Room size result.state store.new }
+    {
         match state.mode {
             0 => pass_to_frame(turn, state, store, piece, from),
             2 => Self::pass_bytes(turn, state, store, piece, from),
@@ -117,7 +124,12 @@ impl Link for Dle {
         }
     }
 
-    fn step(turn: &Turn, state: State, store: &mut [u8], byte: u8) -> Stepped<Message, State> {
+    fn step(turn: &Turn<Self>, state: State, store: &mut [u8], byte: u8) -> Stepped<Message, State>
+        requires { Room size state store.old }
+        ensures tells { told_of result.told ≡ told link (step_on link (state, store.old) byte).1 }
+        ensures leaves { (result.state, store.new) ≡ (step_on link (state, store.old) byte).0 }
+        ensures ready { Room size result.state store.new }
+    {
         match state.mode {
             0 => hunt(state, byte),
             1 => begin(state, byte),
@@ -234,7 +246,7 @@ fn pass_start(state: State, piece: &[u8], from: usize) -> Reached<State>
 
 // Hunting: the noise up to the next 10 and, where that starts a frame, its mark and its bytes.
 fn pass_to_frame(
-    turn: &Turn,
+    turn: &Turn<Dle>,
     state: State,
     store: &mut [u8],
     piece: &[u8],

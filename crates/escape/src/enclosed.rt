@@ -44,7 +44,7 @@ pub trait Enclosed {
 
     // One wire byte of an open frame.
     final fn take_byte(
-        _turn: &Turn,
+        _turn: &Turn<Self>,
         state: State,
         store: &mut [u8],
         byte: u8,
@@ -76,7 +76,7 @@ pub trait Enclosed {
 
     // The wire bytes of an open frame from a place on, as far as whole bytes come and the size allows.
     final fn pass_bytes(
-        _turn: &Turn,
+        _turn: &Turn<Self>,
         state: State,
         store: &mut [u8],
         piece: &[u8],

@@ -1,12 +1,14 @@
 // The expansion link of gate boards: writer and receiver.
 #![tactic(auto)]
 
-ghost use Rattle.std.specs.Prelude.{◌≡◌, ◌&&◌, leb};
+ghost use Rattle.std.specs.Prelude.{◌≡◌, ◌&&◌, leb, ◌≤◌, ◌<◌, length};
 ghost use Rattle.framing.specs.Answer.{outcome_of};
 ghost use Rattle.framing.specs.Writer.{writes};
 ghost use Rattle.framing.specs.Segment as Segment;
 ghost use Rattle.framing.specs.State.{fresh_state, known_state};
 ghost use Rattle.framing.specs.Link.{told, step_on, receives};
+ghost use Rattle.framing.specs.Call.{told_of};
+ghost use Rattle.framing.specs.Passing.{Leads};
 ghost use Rattle.framing.specs.Whole.{read_on};
 ghost use Rattle.framing.specs.Open.{Room};
 ghost use Rattle.framing.proofs.Called as Called;
@@ -114,12 +116,17 @@ impl Link for Expansion {
 
     // Noise, or bytes of an open frame with no FF waiting. A `match` on the mode, here and in `step`: a caller may hold any number there.
     fn advance(
-        turn: &Turn,
+        turn: &Turn<Self>,
         state: State,
         store: &mut [u8],
         piece: &[u8],
         from: usize,
-    ) -> Reached<State> {
+    ) -> Reached<State>
+        requires ready { Room size state store.old }
+        requires within { from ≤ length piece.now }
+        ensures leads { Leads (step_on link) piece.now (state, store.old) from (result.state, store.new) result.next }
+        ensures due { result.next < length piece.now → Room size result.state store.new }
+    {
         match state.mode {
             0 => state.pass_hunting(piece, from, 0xFD),
             1 => Self::pass_bytes(turn, state, store, piece, from),
@@ -127,7 +134,12 @@ impl Link for Expansion {
         }
     }
 
-    fn step(turn: &Turn, state: State, store: &mut [u8], byte: u8) -> Stepped<Message, State> {
+    fn step(turn: &Turn<Self>, state: State, store: &mut [u8], byte: u8) -> Stepped<Message, State>
+        requires { Room size state store.old }
+        ensures tells { told_of result.told ≡ told link (step_on link (state, store.old) byte).1 }
+        ensures leaves { (result.state, store.new) ≡ (step_on link (state, store.old) byte).0 }
+        ensures ready { Room size result.state store.new }
+    {
         match state.mode {
             0 => hunt(state, byte),
             _ => Self::take_byte(turn, state, store, byte),

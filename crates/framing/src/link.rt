@@ -10,6 +10,7 @@ ghost use Rattle.framing.specs.Passing.{Leads};
 
 use crate::refusal::Refusal;
 use crate::{Reached, check_call, is_exact};
+use std::marker::PhantomData;
 
 // What a call of a receiver tells: nothing, a message, or a refusal.
 pub type Told<M> = Result<Option<M>, Refusal>;
@@ -29,11 +30,12 @@ pub struct Stepped<M, S> {
     pub state: S,
 }
 
-// A call's turns over a piece. Only the loop of `scan` makes it, and lends it to the link, which cannot keep it: so no other call can ask a link to
-// take bytes of a state and a store that nobody looked at.
+// The turns of a call of one link over a piece. Only the loop of `scan` makes it, and lends it to the link, which cannot keep it and cannot lend it to
+// another link: so nobody else can ask a link to take bytes of a state and a store that nobody looked at. Since it names the link, the trait's clauses
+// are written out where a link gives its functions.
 #[derive(Drop)]
-pub struct Turn {
-    begun: (),
+pub struct Turn<L> {
+    begun: PhantomData<L>,
 }
 
 pub trait Link {
@@ -80,7 +82,7 @@ pub trait Link {
 
     // The bytes that are passed at once, without an event.
     fn advance(
-        turn: &Turn,
+        turn: &Turn<Self>,
         state: Self::State,
         store: &mut [u8],
         piece: &[u8],
@@ -93,7 +95,7 @@ pub trait Link {
 
     // One byte.
     fn step(
-        turn: &Turn,
+        turn: &Turn<Self>,
         state: Self::State,
         store: &mut [u8],
         byte: u8,
@@ -153,7 +155,7 @@ fn scan<L: Link>(state: L::State, store: &mut [u8], piece: &[u8]) -> Received<L:
     requires { L.Ready state store.old }
     ensures { received_of result store.new ≡ reported L.told (feed L.step_on (state, store.old) piece.now) }
 {
-    let turn = Turn { begun: () };
+    let turn = Turn { begun: PhantomData };
     let mut current = state;
     let mut i = 0;
     // no `for`: a turn goes as far as the link passes bytes

@@ -5,11 +5,13 @@ mod header;
 mod receiver;
 mod writer;
 
-ghost use Rattle.std.specs.Prelude.{◌≡◌};
+ghost use Rattle.std.specs.Prelude.{◌≡◌, ◌≤◌, ◌<◌, length};
 ghost use Rattle.framing.specs.Answer.{outcome_of};
 ghost use Rattle.framing.specs.Segment as Segment;
 ghost use Rattle.framing.specs.Writer.{writes};
 ghost use Rattle.framing.specs.Link.{step_on, told, receives};
+ghost use Rattle.framing.specs.Call.{told_of};
+ghost use Rattle.framing.specs.Passing.{Leads};
 ghost use Rattle.framing.specs.Whole.{read_on};
 ghost use Rattle.framing.proofs.Called.{silent, loud, calls, wholes};
 ghost use Rattle.mdu.specs.Frame as Frame;
@@ -105,12 +107,17 @@ impl Link for Mdu {
 
     // Noise, the bytes of a body, or none.
     fn advance(
-        _turn: &Turn,
+        _turn: &Turn<Self>,
         state: State,
         store: &mut [u8],
         piece: &[u8],
         from: usize,
-    ) -> Reached<State> {
+    ) -> Reached<State>
+        requires ready { Ready state store.old }
+        requires within { from ≤ length piece.now }
+        ensures leads { Leads (step_on link) piece.now (state, store.old) from (result.state, store.new) result.next }
+        ensures due { result.next < length piece.now → Due result.state store.new }
+    {
         if state.base.mode == 0 {
             receiver::pass_noise(state, piece, from)
         } else if state.base.count < 6 {
@@ -121,7 +128,12 @@ impl Link for Mdu {
     }
 
     // Of a body and its check value only the last byte.
-    fn step(_turn: &Turn, state: State, store: &mut [u8], byte: u8) -> Stepped<Message, State> {
+    fn step(_turn: &Turn<Self>, state: State, store: &mut [u8], byte: u8) -> Stepped<Message, State>
+        requires { Due state store.old }
+        ensures tells { told_of result.told ≡ told link (step_on link (state, store.old) byte).1 }
+        ensures leaves { (result.state, store.new) ≡ (step_on link (state, store.old) byte).0 }
+        ensures ready { Ready result.state store.new }
+    {
         if state.base.mode == 0 {
             receiver::hunt(state, store, byte)
         } else if state.base.count < 6 {

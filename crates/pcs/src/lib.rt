@@ -4,7 +4,7 @@
 mod fields;
 mod writer;
 
-ghost use Rattle.std.specs.Prelude.{◌≡◌, List, [], ℕ, ◌≤◌, length, take};
+ghost use Rattle.std.specs.Prelude.{◌≡◌, List, [], ℕ, ◌≤◌, ◌<◌, length, take};
 ghost use Rattle.std.proofs.Math.Option.{some};
 ghost use Rattle.runs.specs.Runs.{over};
 ghost use Rattle.framing.specs.Answer.{outcome_of, fault_of};
@@ -12,6 +12,7 @@ ghost use Rattle.framing.specs.Writer.{writes};
 ghost use Rattle.framing.specs.Segment.{Event, event_of};
 ghost use Rattle.framing.specs.State.{fresh_state, known_state};
 ghost use Rattle.framing.specs.Link.{told, step_on, receives};
+ghost use Rattle.framing.specs.Call.{told_of};
 ghost use Rattle.framing.specs.Whole.{read_on};
 ghost use Rattle.framing.specs.Passing.{Leads};
 ghost use Rattle.framing.proofs.Called as Called;
@@ -122,12 +123,17 @@ impl Link for Pcs {
 
     // Noise, or bytes of an open frame. A `match` on the mode, here and in `step`: a caller may hold any number there.
     fn advance(
-        _turn: &Turn,
+        _turn: &Turn<Self>,
         state: State,
         store: &mut [u8],
         piece: &[u8],
         from: usize,
-    ) -> Reached<State> {
+    ) -> Reached<State>
+        requires ready { Ready state store.old }
+        requires within { from ≤ length piece.now }
+        ensures leads { Leads (step_on link) piece.now (state, store.old) from (result.state, store.new) result.next }
+        ensures due { result.next < length piece.now → Ready result.state store.new }
+    {
         match state.mode {
             0 => state.pass_hunting(piece, from, fields::START),
             1 => pass_bytes(state, store, piece, from),
@@ -135,7 +141,12 @@ impl Link for Pcs {
         }
     }
 
-    fn step(_turn: &Turn, state: State, store: &mut [u8], byte: u8) -> Stepped<Message, State> {
+    fn step(_turn: &Turn<Self>, state: State, store: &mut [u8], byte: u8) -> Stepped<Message, State>
+        requires { Ready state store.old }
+        ensures tells { told_of result.told ≡ told link (step_on link (state, store.old) byte).1 }
+        ensures leaves { (result.state, store.new) ≡ (step_on link (state, store.old) byte).0 }
+        ensures ready { Ready result.state store.new }
+    {
         if state.mode == 0 {
             hunt(state, byte)
         } else {

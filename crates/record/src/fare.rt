@@ -8,6 +8,7 @@ ghost use Rattle.record.specs.Answers.{asked_unsigned, asked_signed};
 
 use super::form::Size;
 use framing::Refusal;
+use std::marker::PhantomData;
 
 // What stands at an element number of a record: none where the record counts no such element.
 #[derive(Clone, Copy, Debug, PartialEq, Eq, Hash)]
@@ -16,10 +17,11 @@ pub enum Element {
     Signed(Option<i32>),
 }
 
-// An element that a call of this crate goes through. Only those calls make one, so no other can ask a fare for a number that its size does not hold.
+// An element that a call of this crate goes through, of one sort of fares. Only those calls make one, and lend it, so no other can ask a fare for a
+// number that its size does not hold.
 #[derive(Drop)]
-pub struct Place {
-    pub(crate) within: (),
+pub struct Place<F> {
+    pub(crate) within: PhantomData<F>,
 }
 
 // How fares of one signedness stand for the numbers of elements.
@@ -32,7 +34,7 @@ pub trait Fare: Copy {
     const SIGNED: bool;
 
     // The fare that a number of such a size stands for.
-    fn from_number(place: &Place, n: u32, size: Size) -> Self
+    fn from_number(place: &Place<Self>, n: u32, size: Size) -> Self
         requires { n < 256 ^ bytes_in size }
         ensures { result ≡ fares.fare_of (bytes_in size) n };
 
@@ -41,7 +43,7 @@ pub trait Fare: Copy {
         ensures { result ≡ fares.holds (bytes_in size) self };
 
     // The number of such a size that stands for the fare.
-    fn to_number(self, place: &Place, size: Size) -> u32
+    fn to_number(self, place: &Place<Self>, size: Size) -> u32
         requires { fares.holds (bytes_in size) self ≡ true }
         ensures { result ≡ fares.number_of (bytes_in size) self };
 
@@ -55,7 +57,10 @@ impl Fare for u32 {
 
     const SIGNED: bool = false;
 
-    fn from_number(_place: &Place, n: u32, _size: Size) -> u32 {
+    fn from_number(_place: &Place<Self>, n: u32, _size: Size) -> u32
+        requires { n < 256 ^ bytes_in _size }
+        ensures { result ≡ unsigned_fares.fare_of (bytes_in _size) n }
+    {
         n
     }
 
@@ -63,7 +68,10 @@ impl Fare for u32 {
         self <= size.top()
     }
 
-    fn to_number(self, _place: &Place, _size: Size) -> u32 {
+    fn to_number(self, _place: &Place<Self>, _size: Size) -> u32
+        requires { unsigned_fares.holds (bytes_in _size) self ≡ true }
+        ensures { result ≡ unsigned_fares.number_of (bytes_in _size) self }
+    {
         self
     }
 
@@ -113,7 +121,10 @@ impl Fare for i32 {
 
     const SIGNED: bool = true;
 
-    fn from_number(_place: &Place, n: u32, size: Size) -> i32 {
+    fn from_number(_place: &Place<Self>, n: u32, size: Size) -> i32
+        requires { n < 256 ^ bytes_in size }
+        ensures { result ≡ signed_fares.fare_of (bytes_in size) n }
+    {
         let top = size.top();
         if n <= top / 2 {
             n.cast_signed()
@@ -126,7 +137,10 @@ impl Fare for i32 {
         magnitude(self) <= size.top() / 2
     }
 
-    fn to_number(self, _place: &Place, size: Size) -> u32 {
+    fn to_number(self, _place: &Place<Self>, size: Size) -> u32
+        requires { signed_fares.holds (bytes_in size) self ≡ true }
+        ensures { result ≡ signed_fares.number_of (bytes_in size) self }
+    {
         if self < 0 {
             size.top() - magnitude(self)
         } else {

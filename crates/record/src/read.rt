@@ -9,6 +9,7 @@ use super::fare::{Fare, Place};
 use super::form::{Header, header_of};
 use framing::{Answer, Refusal};
 use runs::number_at;
+use std::marker::PhantomData;
 
 // The fare of an element of a record, by its index.
 pub(crate) fn fare_at<F: Fare>(bytes: &[u8], header: Header, index: usize) -> F
@@ -17,7 +18,9 @@ pub(crate) fn fare_at<F: Fare>(bytes: &[u8], header: Header, index: usize) -> F
 {
     let size = header.form.size;
     let width = usize::from(size);
-    let place = Place { within: () };
+    let place = Place {
+        within: PhantomData,
+    };
     F::from_number(&place, number_at(bytes, 5 + width * index, width), size)
 }
 

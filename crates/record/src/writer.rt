@@ -12,6 +12,7 @@ use super::fare::{Fare, Place};
 use super::form::{Size, allowed_form};
 use framing::{Answer, Refusal};
 use runs::put_number;
+use std::marker::PhantomData;
 
 // Whether a size holds every fare.
 fn holds_all<F: Fare>(fares: &[F], size: Size) -> bool
@@ -36,7 +37,9 @@ fn put_elements<F: Fare>(fares: &[F], size: Size, out: &mut [u8])
     ensures { out.new ≡ sets out.old 5 (elements F.fares (bytes_in size) fares.now) }
 {
     let bytes = usize::from(size);
-    let place = Place { within: () };
+    let place = Place {
+        within: PhantomData,
+    };
     for (i, &fare) in fares.iter().enumerate() {
         put_number(out, 5 + bytes * i, bytes, fare.to_number(&place, size));
     }
