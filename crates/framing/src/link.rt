@@ -30,9 +30,9 @@ pub struct Stepped<M, S> {
     pub state: S,
 }
 
-// The turns of a call of one link over a piece. Only the loop of `scan` makes it, and lends it to the link, which cannot keep it and cannot lend it to
-// another link: so nobody else can ask a link to take bytes of a state and a store that nobody looked at. Since it names the link, the trait's clauses
-// are written out where a link gives its functions.
+// The turns of a call of one link over a piece. Only the loop of `scan` makes it, and lends it to the link, which can neither keep it nor lend it to
+// another link: so nobody else can ask a link to take bytes of a state and a store that nobody looked at. Since it names the link, the clauses of the
+// trait are written out where a link gives its functions.
 #[derive(Drop)]
 pub struct Turn<L> {
     begun: PhantomData<L>,
