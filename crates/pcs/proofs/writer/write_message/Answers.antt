@@ -20,20 +20,21 @@ module _ (m : Message) (n : ℕ) (e : n ≡ packed_length (length m.payload)) wh
   least : 11 + n ≤ length (frame m)
   least = omega (arith, counted, (trailing_range m.crc).0)
 
+-- Each grind asks only that check_write is told ok of the message, however it is worked out: edits of it are refused by that equation.
 pub returns-in_err-check_write : goal.returns-in_err-check_write
 returns-in_err-check_write c =
     let m = with_data c.args.message c.args.«data».now in
     let l = least m c.packed_length-packed.result c.packed_length-packed.ensures in
     let f = c.in_err-check_write.field-0.0 in
     ap (λ r. (outcome_of r, c.args.out.now)) (passed_up c.from_residual.result f c.from_residual.ensures)
-    ∙ least_refused ok frame m c.args.out.now _ _ _ c.may_send.ensures l c.check_write.ensures f c.in_err-check_write.was
+    ∙ least_refused ok frame m c.args.out.now _ _ _ (grind arith) l c.check_write.ensures f c.in_err-check_write.was
 
 pub returns-then-out-plain-lt3 : goal.returns-then-out-plain-lt3
 returns-then-out-plain-lt3 c =
     let m = with_data c.args.message c.args.«data».now in
     let n = c.packed_length-packed.result in
     let l = least m n c.packed_length-packed.ensures in
-    let p = least_passed ok frame m c.args.out.now _ _ _ c.may_send.ensures l c.check_write.ensures _ c.in_ok-check_write.was in
+    let p = least_passed ok frame m c.args.out.now _ _ _ (grind arith) l c.check_write.ensures _ c.in_ok-check_write.was in
     writes_short ok frame m c.args.out.now p.0 (omega (arith, counted m n c.packed_length-packed.ensures, ap trailing c.if-message.true, p.1))
 
 pub put_frame-requires : goal.put_frame-requires
@@ -41,7 +42,7 @@ put_frame-requires c =
     let m = with_data c.args.message c.args.«data».now in
     let n = c.packed_length-packed.result in
     let l = least m n c.packed_length-packed.ensures in
-    let p = least_passed ok frame m c.args.out.now _ _ _ c.may_send.ensures l c.check_write.ensures _ c.in_ok-check_write.was in
+    let p = least_passed ok frame m c.args.out.now _ _ _ (grind arith) l c.check_write.ensures _ c.in_ok-check_write.was in
     let room : 10 + n + trailing m.crc ≤ length c.args.out.now =
     elim c.else-message.branch [
       | else-message-via-then-message+else-out-plain-lt3 w ↦ omega (arith, p.1, ap trailing w.if-message.true)
@@ -55,7 +56,7 @@ returns c =
     let m = with_data c.args.message c.args.«data».now in
     let n = c.packed_length-packed.result in
     let l = least m n c.packed_length-packed.ensures in
-    let p = least_passed ok frame m c.args.out.now _ _ _ c.may_send.ensures l c.check_write.ensures _ c.in_ok-check_write.was in
+    let p = least_passed ok frame m c.args.out.now _ _ _ (grind arith) l c.check_write.ensures _ c.in_ok-check_write.was in
     let room : 10 + n + trailing m.crc ≤ length c.args.out.now =
     elim c.else-message.branch [
       | else-message-via-then-message+else-out-plain-lt3 w ↦ omega (arith, p.1, ap trailing w.if-message.true)
