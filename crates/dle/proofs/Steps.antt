@@ -66,7 +66,7 @@ module _ (s : State) (store wire : List ℕ) (open_in : s.mode ≡ 0 → ⊥) (r
       λ i. ((record { mode = 0; count = 0; «open» = 0; noise = sym (judge_noise g wire s.noise) i }, store), judged_told g wire i)
   act_taken wrong = refl
 
--- as `take_byte` has it
+-- as `take_byte_in` has it
 pub inside_taken : (s : State) (store : List ℕ) (b : ℕ) → 2 ≤ s.mode → Room size s store
     → taken size 2 3 2 judged s store (meaning dle (eqb s.mode 3) b) ≡ ((step_on link (s, store) b).0, told link (step_on link (s, store) b).1)
 inside_taken s store b open_in room =

@@ -20,7 +20,7 @@ ghost use Rattle.dle.specs.Contract.{data_of, link};
 ghost use Rattle.dle.specs.Steps.{judged, ByRules, Passes};
 
 use escape::{Dle as Doubling, Enclosed};
-use framing::{Answer, Link, Reached, Refusal, State, Stepped, Turn};
+use framing::{Answer, Link, Reached, Refusal, State, Stepped, Stepwise, Turn};
 
 // An accepted message: length 0 marks an error message with its error byte; else so much data lies in the store from place 3.
 // Sequence and node do not stand side by side: they would be loaded together where they were stored apart, which takes longer.
@@ -104,8 +104,8 @@ impl Link for Dle {
         state.noise
     }
 
-    // Noise, or bytes of an open frame with no 10 waiting. A `match` on the mode, here and in `step`: a caller may hold any number there.
-    fn advance(
+    // Noise, or bytes of an open frame with no 10 waiting. A `match` on the mode, here and in `step_in`: a caller may hold any number there.
+    fn advance_in(
         turn: &Turn<Self>,
         state: State,
         store: &mut [u8],
@@ -119,12 +119,17 @@ impl Link for Dle {
     {
         match state.mode {
             0 => pass_to_frame(turn, state, store, piece, from),
-            2 => Self::pass_bytes(turn, state, store, piece, from),
+            2 => Self::pass_bytes_in(turn, state, store, piece, from),
             _ => Reached { state, next: from },
         }
     }
 
-    fn step(turn: &Turn<Self>, state: State, store: &mut [u8], byte: u8) -> Stepped<Message, State>
+    fn step_in(
+        turn: &Turn<Self>,
+        state: State,
+        store: &mut [u8],
+        byte: u8,
+    ) -> Stepped<Message, State>
         requires { Room size state store.old }
         ensures tells { told_of result.told ≡ told link (step_on link (state, store.old) byte).1 }
         ensures leaves { (result.state, store.new) ≡ (step_on link (state, store.old) byte).0 }
@@ -133,7 +138,7 @@ impl Link for Dle {
         match state.mode {
             0 => hunt(state, byte),
             1 => begin(state, byte),
-            _ => Self::take_byte(turn, state, store, byte),
+            _ => Self::take_byte_in(turn, state, store, byte),
         }
     }
 
@@ -150,6 +155,16 @@ impl Link for Dle {
     ghost calls = { Called.calls link };
 
     ghost wholes = { Called.wholes link };
+}
+
+impl Stepwise for Dle {
+    fn is_ready(state: State, store: &[u8]) -> bool {
+        state.count <= Self::SIZE && Self::SIZE <= store.len()
+    }
+
+    fn is_due(state: State, store: &[u8]) -> bool {
+        Self::is_ready(state, store)
+    }
 }
 
 impl Enclosed for Dle {
@@ -258,7 +273,7 @@ fn pass_to_frame(
     let noise = state.pass_hunting(piece, from, 0x10);
     let start = pass_start(noise.state, piece, noise.next);
     if start.state.mode == 2 {
-        Dle::pass_bytes(turn, start.state, store, piece, start.next)
+        Dle::pass_bytes_in(turn, start.state, store, piece, start.next)
     } else {
         start
     }

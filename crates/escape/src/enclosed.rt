@@ -2,6 +2,7 @@
 ghost use Rattle.std.specs.Prelude.{◌≡◌, ℕ, ◌+◌, ◌*◌, ◌≤◌, ◌==◌, nat_le, List, ◌++◌, length};
 ghost use Rattle.std.proofs.lemmas.List.Edits.{sets};
 ghost use Rattle.framing.specs.Answer.{Outcome, outcome_of, stored_at};
+ghost use Rattle.framing.specs.Link.{nothing};
 ghost use Rattle.framing.specs.Call.{told_of};
 ghost use Rattle.framing.specs.Open.{Room};
 ghost use Rattle.escape.specs.Code.{hide, meaning};
@@ -42,8 +43,8 @@ pub trait Enclosed {
     fn judge(gathered: &[u8]) -> Result<Self::Message, Refusal>
         ensures { outcome_of result ≡ judged gathered.now };
 
-    // One wire byte of an open frame.
-    final fn take_byte(
+    // One wire byte of an open frame, at a turn of a call.
+    final fn take_byte_in(
         _turn: &Turn<Self>,
         state: State,
         store: &mut [u8],
@@ -53,29 +54,29 @@ pub trait Enclosed {
         ensures { ((result.state, store.new), told_of result.told)
             ≡ taken MOST OPEN WAITING MARK judged state store.old (meaning Self.Code.code (state.mode == WAITING) byte) }
     {
-        match Self::Code::meaning(state.mode == Self::WAITING, byte) {
-            Meaning::Byte(byte) => state.gather(store, byte, Self::OPEN, Self::MOST),
-            Meaning::Waits => Stepped {
+        take::<Self>(state, store, byte)
+    }
+
+    // What `take_byte_in` makes of a byte, outside of a call. Of a state and a store with no room, nothing.
+    final fn take_byte(state: State, store: &mut [u8], byte: u8) -> Stepped<Self::Message, State>
+        ensures takes { Room MOST state store.old
+            → ((result.state, store.new), told_of result.told)
+            ≡ taken MOST OPEN WAITING MARK judged state store.old (meaning Self.Code.code (state.mode == WAITING) byte) }
+        ensures others { (Room MOST state store.old → ⊥)
+            → (told_of result.told ≡ nothing) × (result.state ≡ state) × (store.new ≡ store.old) }
+    {
+        if state.count <= Self::MOST && Self::MOST <= store.len() {
+            take::<Self>(state, store, byte)
+        } else {
+            Stepped {
                 told: Ok(None),
-                state: state.hold(Self::WAITING, state.count),
-            },
-            Meaning::Start => Stepped {
-                told: Err(Refusal::NewStart),
-                state: state.reopen(Self::OPEN, 0, Self::MARK),
-            },
-            Meaning::End => Stepped {
-                told: Self::judge(&store[..state.count]).map(Some),
-                state: state.close(),
-            },
-            Meaning::Wrong => Stepped {
-                told: Err(Refusal::WrongCode),
-                state: state.close(),
-            },
+                state,
+            }
         }
     }
 
-    // The wire bytes of an open frame from a place on, as far as whole bytes come and the size allows.
-    final fn pass_bytes(
+    // The wire bytes of an open frame from a place on, as far as whole bytes come and the size allows, at a turn of a call.
+    final fn pass_bytes_in(
         _turn: &Turn<Self>,
         state: State,
         store: &mut [u8],
@@ -86,16 +87,62 @@ pub trait Enclosed {
         requires within { from ≤ length piece.now }
         ensures { (result, store.new) ≡ passed Self.Code.code MOST state store.old piece.now from }
     {
-        let got = Self::Code::unhide_into(
-            &piece[from..],
-            store,
-            state.count,
-            Self::MOST - state.count,
-        );
-        Reached {
-            state: state.pass_open(state.count + got.count, got.used),
-            next: from + got.used,
+        pass::<Self>(state, store, piece, from)
+    }
+
+    // What `pass_bytes_in` passes, outside of a call. Of a state and a store with no room, or from behind the piece, nothing.
+    final fn pass_bytes(state: State, store: &mut [u8], piece: &[u8], from: usize) -> Reached<State>
+        ensures passes { Room MOST state store.old
+            → from ≤ length piece.now
+            → (result, store.new) ≡ passed Self.Code.code MOST state store.old piece.now from }
+        ensures others { (Room MOST state store.old × (from ≤ length piece.now) → ⊥)
+            → (result.state ≡ state) × (store.new ≡ store.old) × (result.next ≡ from) }
+    {
+        if from <= piece.len() && state.count <= Self::MOST && Self::MOST <= store.len() {
+            pass::<Self>(state, store, piece, from)
+        } else {
+            Reached { state, next: from }
         }
+    }
+}
+
+// The byte, for both of the functions: here nobody can make a `Turn`.
+fn take<E: Enclosed>(state: State, store: &mut [u8], byte: u8) -> Stepped<E::Message, State>
+    requires { Room E.MOST state store.old }
+    ensures { ((result.state, store.new), told_of result.told)
+        ≡ taken E.MOST E.OPEN E.WAITING E.MARK E.judged state store.old (meaning E.Code.code (state.mode == E.WAITING) byte) }
+{
+    match E::Code::meaning(state.mode == E::WAITING, byte) {
+        Meaning::Byte(byte) => state.gather(store, byte, E::OPEN, E::MOST),
+        Meaning::Waits => Stepped {
+            told: Ok(None),
+            state: state.hold(E::WAITING, state.count),
+        },
+        Meaning::Start => Stepped {
+            told: Err(Refusal::NewStart),
+            state: state.reopen(E::OPEN, 0, E::MARK),
+        },
+        Meaning::End => Stepped {
+            told: E::judge(&store[..state.count]).map(Some),
+            state: state.close(),
+        },
+        Meaning::Wrong => Stepped {
+            told: Err(Refusal::WrongCode),
+            state: state.close(),
+        },
+    }
+}
+
+// The bytes, for both of the functions.
+fn pass<E: Enclosed>(state: State, store: &mut [u8], piece: &[u8], from: usize) -> Reached<State>
+    requires room { Room E.MOST state store.old }
+    requires within { from ≤ length piece.now }
+    ensures { (result, store.new) ≡ passed E.Code.code E.MOST state store.old piece.now from }
+{
+    let got = E::Code::unhide_into(&piece[from..], store, state.count, E::MOST - state.count);
+    Reached {
+        state: state.pass_open(state.count + got.count, got.used),
+        next: from + got.used,
     }
 }
 

@@ -58,7 +58,7 @@ module _ (s : State) (store before wire : List ℕ) (open_in : s.mode ≡ 0 → 
       λ i. ((record { mode = 0; count = 0; «open» = 0; noise = sym (judge_noise g wire s.noise) i }, store), judged_told g wire i)
   act_taken wrong = refl
 
--- as `take_byte` has it
+-- as `take_byte_in` has it
 pub inside_taken : (s : State) (store : List ℕ) (b : ℕ) → (s.mode ≡ 0 → ⊥) → Room size s store
     → taken size 1 2 1 judged s store (meaning expansion (eqb s.mode 2) b) ≡ ((step_on link (s, store) b).0, told link (step_on link (s, store) b).1)
 inside_taken s store b open_in room =

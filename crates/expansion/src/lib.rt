@@ -20,7 +20,7 @@ ghost use Rattle.expansion.specs.Contract.{data_of, link};
 ghost use Rattle.expansion.specs.Steps.{judged, ByRules};
 
 use escape::{Enclosed, Expansion as Escape};
-use framing::{Answer, Link, Reached, Refusal, State, Stepped, Turn};
+use framing::{Answer, Link, Reached, Refusal, State, Stepped, Stepwise, Turn};
 
 // An accepted message; its data lies in the store from place 4. The kind stays a number, since a call of `linebox_expansion_write` may give any,
 // and one that is none is answered with 3.
@@ -114,8 +114,8 @@ impl Link for Expansion {
         state.noise
     }
 
-    // Noise, or bytes of an open frame with no FF waiting. A `match` on the mode, here and in `step`: a caller may hold any number there.
-    fn advance(
+    // Noise, or bytes of an open frame with no FF waiting. A `match` on the mode, here and in `step_in`: a caller may hold any number there.
+    fn advance_in(
         turn: &Turn<Self>,
         state: State,
         store: &mut [u8],
@@ -129,12 +129,17 @@ impl Link for Expansion {
     {
         match state.mode {
             0 => state.pass_hunting(piece, from, 0xFD),
-            1 => Self::pass_bytes(turn, state, store, piece, from),
+            1 => Self::pass_bytes_in(turn, state, store, piece, from),
             _ => Reached { state, next: from },
         }
     }
 
-    fn step(turn: &Turn<Self>, state: State, store: &mut [u8], byte: u8) -> Stepped<Message, State>
+    fn step_in(
+        turn: &Turn<Self>,
+        state: State,
+        store: &mut [u8],
+        byte: u8,
+    ) -> Stepped<Message, State>
         requires { Room size state store.old }
         ensures tells { told_of result.told ≡ told link (step_on link (state, store.old) byte).1 }
         ensures leaves { (result.state, store.new) ≡ (step_on link (state, store.old) byte).0 }
@@ -142,7 +147,7 @@ impl Link for Expansion {
     {
         match state.mode {
             0 => hunt(state, byte),
-            _ => Self::take_byte(turn, state, store, byte),
+            _ => Self::take_byte_in(turn, state, store, byte),
         }
     }
 
@@ -159,6 +164,16 @@ impl Link for Expansion {
     ghost calls = { Called.calls link };
 
     ghost wholes = { Called.wholes link };
+}
+
+impl Stepwise for Expansion {
+    fn is_ready(state: State, store: &[u8]) -> bool {
+        state.count <= Self::SIZE && Self::SIZE <= store.len()
+    }
+
+    fn is_due(state: State, store: &[u8]) -> bool {
+        Self::is_ready(state, store)
+    }
 }
 
 impl Enclosed for Expansion {

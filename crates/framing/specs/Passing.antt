@@ -1,5 +1,5 @@
--- Bytes of a piece that a call of a receiver passes without an event. This serves the contracts of what a link gives its receiver, and of the
--- links' private functions.
+-- Bytes of a piece that a call of a receiver passes without an event. This serves the contracts of what a link gives its receiver, of the same outside
+-- of a call, and of the links' private functions.
 use Rattle.std.specs.Prelude.{◌≡◌, ℕ, ◌≤◌, List, length, drop}
 use Rattle.framing.specs.Receiver.{later, feed}
 use Rattle.std.proofs.Math.Option.{Option}

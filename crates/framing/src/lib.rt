@@ -14,7 +14,7 @@ ghost use Rattle.framing.specs.Open.{gathered_byte};
 ghost use Rattle.framing.specs.State.{fresh_state, known_state, after_noise, hunted_from};
 ghost use Rattle.framing.specs.Whole.{exactly};
 
-pub use link::{Link, Received, Stepped, Told, Turn};
+pub use link::{Link, Received, Stepped, Stepwise, Told, Turn};
 pub use refusal::{Numbered, Refusal};
 
 // The answer of a call that makes bytes: how many, or a refusal.

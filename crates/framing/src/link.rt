@@ -30,9 +30,9 @@ pub struct Stepped<M, S> {
     pub state: S,
 }
 
-// The turns of a call of one link over a piece. Only the loop of `scan` makes it, and lends it to the link, which can neither keep it nor lend it to
-// another link: so nobody else can ask a link to take bytes of a state and a store that nobody looked at. Since it names the link, the clauses of the
-// trait are written out where a link gives its functions.
+// The turns of a call of one link over a piece. Only `scan`, and `advance` and `step` once they have looked at the state and the store, make it and
+// lend it to the link, which can neither keep it nor lend it to another link: so nobody else can ask a link to take bytes of a state and a store that
+// nobody looked at. Since it names the link, the clauses of the trait are written out where a link gives its functions.
 #[derive(Drop)]
 pub struct Turn<L> {
     begun: PhantomData<L>,
@@ -81,7 +81,7 @@ pub trait Link {
         ensures { result ≡ noise state };
 
     // The bytes that are passed at once, without an event.
-    fn advance(
+    fn advance_in(
         turn: &Turn<Self>,
         state: Self::State,
         store: &mut [u8],
@@ -94,7 +94,7 @@ pub trait Link {
         ensures due { result.next < length piece.now → Due result.state store.new };
 
     // One byte.
-    fn step(
+    fn step_in(
         turn: &Turn<Self>,
         state: Self::State,
         store: &mut [u8],
@@ -148,6 +148,71 @@ pub trait Link {
             _ => Err(Refusal::TooShort),
         }
     }
+
+    // What `advance_in` passes, outside of a call. Of a state and a store that are not ready, or from behind the piece, nothing.
+    final fn advance(
+        state: Self::State,
+        store: &mut [u8],
+        piece: &[u8],
+        from: usize,
+    ) -> Reached<Self::State>
+    where
+        Self: Stepwise,
+        ensures leads { Ready state store.old
+            → from ≤ length piece.now
+            → Leads step_on piece.now (state, store.old) from (result.state, store.new) result.next }
+        ensures due { Ready state store.old
+            → from ≤ length piece.now
+            → result.next < length piece.now
+            → Due result.state store.new }
+        ensures others { (Ready state store.old × (from ≤ length piece.now) → ⊥)
+            → (result.state ≡ state) × (store.new ≡ store.old) × (result.next ≡ from) }
+    {
+        if from <= piece.len() && Self::is_ready(state, store) {
+            let turn = Turn { begun: PhantomData };
+            Self::advance_in(&turn, state, store, piece, from)
+        } else {
+            Reached { state, next: from }
+        }
+    }
+
+    // What `step_in` makes of a byte, outside of a call. Of a state and a store that are not due, nothing.
+    final fn step(
+        state: Self::State,
+        store: &mut [u8],
+        byte: u8,
+    ) -> Stepped<Self::Message, Self::State>
+    where
+        Self: Stepwise,
+        ensures tells { Due state store.old → told_of result.told ≡ told (step_on (state, store.old) byte).1 }
+        ensures leaves { Due state store.old → (result.state, store.new) ≡ (step_on (state, store.old) byte).0 }
+        ensures ready { Due state store.old → Ready result.state store.new }
+        ensures others { (Due state store.old → ⊥)
+            → (told_of result.told ≡ nothing) × (result.state ≡ state) × (store.new ≡ store.old) }
+    {
+        if Self::is_due(state, store) {
+            let turn = Turn { begun: PhantomData };
+            Self::step_in(&turn, state, store, byte)
+        } else {
+            Stepped {
+                told: Ok(None),
+                state,
+            }
+        }
+    }
+}
+
+// A link that can tell of which states and stores it takes bytes: a caller may then have it take some by themselves, and is asked for nothing.
+pub trait Stepwise: Link {
+    // Whether runs of bytes are passed.
+    fn is_ready(state: Self::State, store: &[u8]) -> bool
+        ensures only { result ≡ true → Self.Ready state store.now }
+        ensures all { Self.Ready state store.now → result ≡ true };
+
+    // Whether a byte is taken.
+    fn is_due(state: Self::State, store: &[u8]) -> bool
+        ensures only { result ≡ true → Self.Due state store.now }
+        ensures all { Self.Due state store.now → result ≡ true };
 }
 
 // The bytes of a piece, until one makes an event.
@@ -160,7 +225,7 @@ fn scan<L: Link>(state: L::State, store: &mut [u8], piece: &[u8]) -> Received<L:
     let mut i = 0;
     // no `for`: a turn goes as far as the link passes bytes
     loop {
-        let reached = L::advance(&turn, current, store, piece, i);
+        let reached = L::advance_in(&turn, current, store, piece, i);
         i = reached.next;
         if i == piece.len() {
             return Received {
@@ -169,7 +234,7 @@ fn scan<L: Link>(state: L::State, store: &mut [u8], piece: &[u8]) -> Received<L:
                 state: reached.state,
             };
         }
-        let stepped = L::step(&turn, reached.state, store, piece[i]);
+        let stepped = L::step_in(&turn, reached.state, store, piece[i]);
         i += 1;
         // a case for each of the two: one test for both would stand behind every byte
         let told = match stepped.told {

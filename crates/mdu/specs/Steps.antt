@@ -1,4 +1,4 @@
--- What the receiver's private functions answer: the steps of a call.
+-- What the receiver's private functions answer: the steps of a call. `Ready` and `Due` are also what `advance` and `step` test.
 use Rattle.std.specs.Prelude.{◌≡◌, ℕ, ◌+◌, ◌%◌, ◌^◌, ◌<◌, ◌≤◌, true, List, length, Result, Ok, None}
 use Rattle.std.specs.Prelude as Code
 use Rattle.std.proofs.Math.Option.{Option}

@@ -20,7 +20,7 @@ ghost use Rattle.mdu.specs.Rules.{size};
 ghost use Rattle.mdu.specs.Contract.{fresh_state, known_state, data_of, link};
 ghost use Rattle.mdu.specs.Steps.{Ready, Due};
 
-use framing::{Answer, Link, Reached, Stepped, Turn};
+use framing::{Answer, Link, Reached, Stepped, Stepwise, Turn};
 use header::length_ok;
 
 // What the receiver keeps between calls: what every link's does, and from byte six of a frame on its stated length.
@@ -106,7 +106,7 @@ impl Link for Mdu {
     }
 
     // Noise, the bytes of a body, or none.
-    fn advance(
+    fn advance_in(
         _turn: &Turn<Self>,
         state: State,
         store: &mut [u8],
@@ -128,7 +128,12 @@ impl Link for Mdu {
     }
 
     // Of a body and its check value only the last byte.
-    fn step(_turn: &Turn<Self>, state: State, store: &mut [u8], byte: u8) -> Stepped<Message, State>
+    fn step_in(
+        _turn: &Turn<Self>,
+        state: State,
+        store: &mut [u8],
+        byte: u8,
+    ) -> Stepped<Message, State>
         requires { Due state store.old }
         ensures tells { told_of result.told ≡ told link (step_on link (state, store.old) byte).1 }
         ensures leaves { (result.state, store.new) ≡ (step_on link (state, store.old) byte).0 }
@@ -156,4 +161,17 @@ impl Link for Mdu {
     ghost calls = { calls link };
 
     ghost wholes = { wholes link };
+}
+
+impl Stepwise for Mdu {
+    fn is_ready(state: State, store: &[u8]) -> bool {
+        Self::is_known(state) && Self::SIZE <= store.len()
+    }
+
+    // Of a body and its check value only the last byte.
+    fn is_due(state: State, store: &[u8]) -> bool {
+        let State { base, length } = state;
+        Self::is_ready(state, store)
+            && (base.count < 6 || 7 <= base.count && base.count - 7 == length)
+    }
 }

@@ -1,4 +1,4 @@
--- What the private functions answer: the steps of a call.
+-- What the private functions answer: the steps of a call. `Ready` is also what `advance` and `step` test.
 use Rattle.std.specs.Prelude.{ℕ, ◌+◌, ◌-◌, ◌≤◌, ◌≡◌, Bool, ◌&&◌, not, List, [], ◌∷◌, ltb, length, take, drop, set, get_or}
 use Rattle.std.proofs.Math.Option.{Option}
 use Rattle.framing.specs.Answer.{Outcome, done, refused}

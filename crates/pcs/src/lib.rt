@@ -24,7 +24,7 @@ ghost use Rattle.pcs.specs.Rules as Rules;
 ghost use Rattle.pcs.specs.Contract.{phase_of, front_of, numbers_of, data_of, link};
 ghost use Rattle.pcs.specs.Steps.{trailer_fault, heard, ByRules, Ready, Open};
 
-use framing::{Answer, Link, Reached, Refusal, State, Stepped, Turn};
+use framing::{Answer, Link, Reached, Refusal, State, Stepped, Stepwise, Turn};
 
 // The least store of a receiver: a header of 8 bytes, at most 1,171 packed bytes, the sum, three bytes of CRC.
 const SIZE: usize = 1183;
@@ -121,8 +121,8 @@ impl Link for Pcs {
         state.noise
     }
 
-    // Noise, or bytes of an open frame. A `match` on the mode, here and in `step`: a caller may hold any number there.
-    fn advance(
+    // Noise, or bytes of an open frame. A `match` on the mode, here and in `step_in`: a caller may hold any number there.
+    fn advance_in(
         _turn: &Turn<Self>,
         state: State,
         store: &mut [u8],
@@ -141,7 +141,12 @@ impl Link for Pcs {
         }
     }
 
-    fn step(_turn: &Turn<Self>, state: State, store: &mut [u8], byte: u8) -> Stepped<Message, State>
+    fn step_in(
+        _turn: &Turn<Self>,
+        state: State,
+        store: &mut [u8],
+        byte: u8,
+    ) -> Stepped<Message, State>
         requires { Ready state store.old }
         ensures tells { told_of result.told ≡ told link (step_on link (state, store.old) byte).1 }
         ensures leaves { (result.state, store.new) ≡ (step_on link (state, store.old) byte).0 }
@@ -167,6 +172,16 @@ impl Link for Pcs {
     ghost calls = { Called.calls link };
 
     ghost wholes = { Called.wholes link };
+}
+
+impl Stepwise for Pcs {
+    fn is_ready(state: State, store: &[u8]) -> bool {
+        state.count <= SIZE && SIZE <= store.len()
+    }
+
+    fn is_due(state: State, store: &[u8]) -> bool {
+        Self::is_ready(state, store)
+    }
 }
 
 // Hunting: the start mark opens a frame, any other byte is noise.

@@ -1,5 +1,5 @@
 // The two sorts of fares, u32 for the unsigned types and i32 for the signed ones, and an element of either.
-ghost use Rattle.std.specs.Prelude.{◌≡◌, Bool, true, false, ◌<◌, ◌^◌, refl};
+ghost use Rattle.std.specs.Prelude.{◌≡◌, Bool, true, false, ◌<◌, ◌%◌, ◌^◌, refl};
 ghost use Rattle.std.specs.Int.Signed.{mag};
 ghost use Rattle.framing.specs.Answer.{outcome_of};
 ghost use Rattle.record.specs.Form.{bytes_in};
@@ -17,8 +17,8 @@ pub enum Element {
     Signed(Option<i32>),
 }
 
-// An element that a call of this crate goes through, of one sort of fares. Only those calls make one, and lend it, so no other can ask a fare for a
-// number that its size does not hold.
+// An element that a call of this crate goes through, or a number or a fare that it has tested, of one sort of fares. Only those calls make one, and
+// lend it, so no other can ask a fare for a number that its size does not hold.
 #[derive(Drop)]
 pub struct Place<F> {
     pub(crate) within: PhantomData<F>,
@@ -34,7 +34,7 @@ pub trait Fare: Copy {
     const SIGNED: bool;
 
     // The fare that a number of such a size stands for.
-    fn from_number(place: &Place<Self>, n: u32, size: Size) -> Self
+    fn from_number_at(place: &Place<Self>, n: u32, size: Size) -> Self
         requires { n < 256 ^ bytes_in size }
         ensures { result ≡ fares.fare_of (bytes_in size) n };
 
@@ -43,11 +43,37 @@ pub trait Fare: Copy {
         ensures { result ≡ fares.holds (bytes_in size) self };
 
     // The number of such a size that stands for the fare.
-    fn to_number(self, place: &Place<Self>, size: Size) -> u32
+    fn to_number_at(self, place: &Place<Self>, size: Size) -> u32
         requires { fares.holds (bytes_in size) self ≡ true }
         ensures { result ≡ fares.number_of (bytes_in size) self };
 
     ghost sign: { SIGNED ≡ fares.signed };
+
+    // What `from_number_at` gives, outside of a record. Of a number that the size does not hold, the fare of its low bytes.
+    final fn from_number(n: u32, size: Size) -> Self
+        ensures held { n < 256 ^ bytes_in size → result ≡ fares.fare_of (bytes_in size) n }
+        ensures low { result ≡ fares.fare_of (bytes_in size) (n % 256 ^ bytes_in size) }
+    {
+        let place = Place {
+            within: PhantomData,
+        };
+        Self::from_number_at(&place, n & size.top(), size)
+    }
+
+    // What `to_number_at` gives, outside of a record. Of a fare that the size does not hold, 0.
+    final fn to_number(self, size: Size) -> u32
+        ensures held { fares.holds (bytes_in size) self ≡ true → result ≡ fares.number_of (bytes_in size) self }
+        ensures others { fares.holds (bytes_in size) self ≡ false → result ≡ 0 }
+    {
+        let place = Place {
+            within: PhantomData,
+        };
+        if self.is_held(size) {
+            self.to_number_at(&place, size)
+        } else {
+            0
+        }
+    }
 }
 
 impl Fare for u32 {
@@ -57,7 +83,7 @@ impl Fare for u32 {
 
     const SIGNED: bool = false;
 
-    fn from_number(_place: &Place<Self>, n: u32, _size: Size) -> u32
+    fn from_number_at(_place: &Place<Self>, n: u32, _size: Size) -> u32
         requires { n < 256 ^ bytes_in _size }
         ensures { result ≡ unsigned_fares.fare_of (bytes_in _size) n }
     {
@@ -68,7 +94,7 @@ impl Fare for u32 {
         self <= size.top()
     }
 
-    fn to_number(self, _place: &Place<Self>, _size: Size) -> u32
+    fn to_number_at(self, _place: &Place<Self>, _size: Size) -> u32
         requires { unsigned_fares.holds (bytes_in _size) self ≡ true }
         ensures { result ≡ unsigned_fares.number_of (bytes_in _size) self }
     {
@@ -121,7 +147,7 @@ impl Fare for i32 {
 
     const SIGNED: bool = true;
 
-    fn from_number(_place: &Place<Self>, n: u32, size: Size) -> i32
+    fn from_number_at(_place: &Place<Self>, n: u32, size: Size) -> i32
         requires { n < 256 ^ bytes_in size }
         ensures { result ≡ signed_fares.fare_of (bytes_in size) n }
     {
@@ -137,7 +163,7 @@ impl Fare for i32 {
         magnitude(self) <= size.top() / 2
     }
 
-    fn to_number(self, _place: &Place<Self>, size: Size) -> u32
+    fn to_number_at(self, _place: &Place<Self>, size: Size) -> u32
         requires { signed_fares.holds (bytes_in size) self ≡ true }
         ensures { result ≡ signed_fares.number_of (bytes_in size) self }
     {

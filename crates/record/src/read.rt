@@ -21,7 +21,7 @@ pub(crate) fn fare_at<F: Fare>(bytes: &[u8], header: Header, index: usize) -> F
     let place = Place {
         within: PhantomData,
     };
-    F::from_number(&place, number_at(bytes, 5 + width * index, width), size)
+    F::from_number_at(&place, number_at(bytes, 5 + width * index, width), size)
 }
 
 // Copies the fares of a record of their signedness to the start of out and answers their count.

@@ -41,7 +41,7 @@ fn put_elements<F: Fare>(fares: &[F], size: Size, out: &mut [u8])
         within: PhantomData,
     };
     for (i, &fare) in fares.iter().enumerate() {
-        put_number(out, 5 + bytes * i, bytes, fare.to_number(&place, size));
+        put_number(out, 5 + bytes * i, bytes, fare.to_number_at(&place, size));
     }
 }
 

@@ -6,6 +6,8 @@ mod kept;
 mod parts;
 mod receivers;
 mod shown;
+#[cfg(test)]
+mod tests;
 mod writers;
 
 use framing::Link;

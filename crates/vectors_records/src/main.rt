@@ -5,6 +5,8 @@
 mod fares;
 mod makers;
 mod records;
+#[cfg(test)]
+mod tests;
 mod views;
 
 use std::io;

@@ -3,6 +3,8 @@
 // Both standard input and what is to be printed come from the second implementation, whose src/vectors.rs says how lines are written.
 #![tactic(auto)]
 
+#[cfg(test)]
+mod tests;
 mod values;
 mod whole;
 

@@ -43,8 +43,8 @@ pass_start-start-requires c =
     let n = noise _ _ c.args.store.now _ _ q.0 q.1.count q.2 c.pass_hunting-noise.ensures in
     (n.1, n.2, n.0.within)
 
-pub pass_bytes-requires : goal.pass_bytes-requires
-pass_bytes-requires c =
+pub pass_bytes_in-requires : goal.pass_bytes_in-requires
+pass_bytes_in-requires c =
     let q = c.requires in
     let store = c.args.store.now in
     let p = marked _ _ store _ _ _ q.0 q.1.count q.2 c.pass_hunting-noise.ensures (c.pass_start-start.ensures store) in
@@ -57,7 +57,7 @@ returns-then-start-eq2 c =
     let m = marked _ _ store _ _ _ q.0 q.1.count q.2 c.pass_hunting-noise.ensures (c.pass_start-start.ensures store) in
     let s = c.pass_start-start.result.state in
     let fits : s.«open» < 2 ^ 32 = omega arith in
-    let p = passes _ store _ s _ _ c.if-start-eq2.true fits (record { count = m.count; room = q.1.room }) m.leads.within c.pass_bytes.ensures in
+    let p = passes _ store _ s _ _ c.if-start-eq2.true fits (record { count = m.count; room = q.1.room }) m.leads.within c.pass_bytes_in.ensures in
     record { leads = leads_then link _ m.leads p.leads; count = p.count }
 
 pub returns-else-start-eq2 : goal.returns-else-start-eq2

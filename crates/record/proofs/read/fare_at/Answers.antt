@@ -12,8 +12,8 @@ overflow_mul-width g c = rw c.from-width.ensures (omega (arith, found-whole c.re
 pub overflow_add-width : goal.overflow_add-width
 overflow_add-width g c = rw c.from-width.ensures (omega (arith, found-whole c.requires.0, within (bytes_in c.args.header.form.size) c.requires.1))
 
-pub from_number-requires : goal.from_number-requires
-from_number-requires g c =
+pub from_number_at-requires : goal.from_number_at-requires
+from_number_at-requires g c =
     let a = c.args in
     let size = bytes_in a.header.form.size in
     sized_lt a.bytes.now (5 + size * a.index) size _ (λ i. omega (arith, c.type_inv.bytes i)) (sized a.bytes.now (5 + size * a.index) size _

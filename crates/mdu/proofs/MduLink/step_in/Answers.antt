@@ -3,7 +3,7 @@ use Rattle.mdu.specs.Rules.{on_byte}
 use Rattle.mdu.specs.Contract.{known_state, phase_of}
 use Rattle.mdu.specs.Steps.{ByRules}
 use Rattle.mdu.proofs.Known.{known_next}
-use Rattle.mdu.proofs.MduLink.step.Goals as goal
+use Rattle.mdu.proofs.MduLink.step_in.Goals as goal
 
 pub returns-then-state-lt6-clause-ready : goal.returns-then-state-lt6-clause-ready
 returns-then-state-lt6-clause-ready c =

@@ -2,7 +2,7 @@ use Rattle.std.proofs.Common.{ap, sym, drop}
 use Rattle.runs.specs.Runs.{before}
 use Rattle.runs.proofs.Bytes.{part_rest}
 use Rattle.pcs.proofs.Passing.{leads_hunting}
-use Rattle.pcs.proofs.PcsLink.advance.Goals as goal
+use Rattle.pcs.proofs.PcsLink.advance_in.Goals as goal
 
 pub returns-in-0-clause-leads : goal.returns-in-0-clause-leads
 returns-in-0-clause-leads c =

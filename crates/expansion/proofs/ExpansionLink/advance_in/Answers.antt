@@ -2,7 +2,7 @@ use Rattle.std.proofs.Common.{◌<◌, ◌^◌, ◌≡◌, drop, sym, ap, arith}
 use Rattle.runs.specs.Runs.{before}
 use Rattle.runs.proofs.Bytes.{part_rest}
 use Rattle.expansion.proofs.Passing.{leads_hunting, passes}
-use Rattle.expansion.proofs.ExpansionLink.advance.Goals as goal
+use Rattle.expansion.proofs.ExpansionLink.advance_in.Goals as goal
 
 pub returns-in-0-clause-leads : goal.returns-in-0-clause-leads
 returns-in-0-clause-leads c =
@@ -17,11 +17,11 @@ returns-in-1-clause-leads c =
     let a = c.args in
     let mode : a.state.mode ≡ 1 = omega (arith, c.in-1) in
     let fits : a.state.«open» < 2 ^ 32 = omega arith in
-    (passes a.piece.now a.store.now _ a.state a.from _ mode fits c.requires.ready c.requires.within c.pass_bytes.ensures).0
+    (passes a.piece.now a.store.now _ a.state a.from _ mode fits c.requires.ready c.requires.within c.pass_bytes_in.ensures).0
 
 pub returns-in-1-clause-due : goal.returns-in-1-clause-due
 returns-in-1-clause-due c =
     let a = c.args in
     let mode : a.state.mode ≡ 1 = omega (arith, c.in-1) in
     let fits : a.state.«open» < 2 ^ 32 = omega arith in
-    λ _. (passes a.piece.now a.store.now _ a.state a.from _ mode fits c.requires.ready c.requires.within c.pass_bytes.ensures).1
+    λ _. (passes a.piece.now a.store.now _ a.state a.from _ mode fits c.requires.ready c.requires.within c.pass_bytes_in.ensures).1
